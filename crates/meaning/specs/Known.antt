@@ -1,0 +1,40 @@
+-- The known plans of document 01, section 7: case 2 and the starred ones, 11 and 12, as one table of texts and outcomes.
+use mathlib.Core.List.{List, [], _∷_}
+use Prim.Native.Nat.{ℕ}
+use Prim.Native.Char.{code}
+use Prim.Native.String as S
+use Prim.Native.String.{String}
+use lib.IntN.{pos}
+use Rattle.meaning.specs.Outcome.{Outcome, solved, none, refusal}
+
+-- the bytes of a text of ASCII characters
+abbrev pub bytes : String → List ℕ
+bytes S.[] = []
+bytes (S._∷_ c s) = code c ∷ bytes s
+
+pub record Known : Type 0 where
+  pub text : String
+  pub outcome : Outcome
+
+abbrev known : String → Outcome → Known
+known t o = record { text = t; outcome = o }
+
+abbrev pub table : List Known
+table =
+    known "events\t1\t0\n" (solved (pos 0 ∷ []) [])
+    ∷ known "events\t4\t20\nrule\t0\t1\t3\t3\nrule\t1\t2\t0\t20\nwish\t2\t3\t2\t0\t1\t3\t2\nwish\t0\t3\t4\t3\t3\t2\t2\t1\t0\n" (solved (pos 0 ∷ pos 3 ∷ pos 3 ∷ pos 7 ∷ []) (3 ∷ 2 ∷ []))
+    ∷ known "events\t2\t1\nwish\t0\t1\t0\t0\t1\nwish\t0\t1\t0\t1\t0\n" (solved (pos 0 ∷ pos 1 ∷ []) (1 ∷ 0 ∷ []))
+    ∷ known "events\t2\t1\nwish\t0\t1\t0\t1\t0\nwish\t0\t1\t0\t0\t1\n" (solved (pos 0 ∷ pos 0 ∷ []) (1 ∷ 0 ∷ []))
+    ∷ known "events\t2\t1\nwish\t0\t1\t0\t5\t1\nwish\t0\t1\t0\t0\t1\n" (solved (pos 0 ∷ pos 1 ∷ []) (1 ∷ 1 ∷ []))
+    ∷ known "events\t3\t10\nwish\t0\t1\t0\t1\nwish\t1\t2\t1\t1\t2\t3\n" (solved (pos 0 ∷ pos 0 ∷ pos 3 ∷ []) (1 ∷ 3 ∷ []))
+    ∷ known "events\t3\t10\nrule\t0\t1\t4\t10\nrule\t1\t2\t4\t10\nrule\t0\t2\t0\t7\n" (none (4 ∷ 3 ∷ 1 ∷ []))
+    ∷ known "events\t3\t10\nrule\t0\t1\t4\t10\nrule\t1\t2\t4\t10\nrule\t0\t2\t0\t8\n" (solved (pos 0 ∷ pos 4 ∷ pos 8 ∷ []) [])
+    ∷ known "events\t2\t3\nrule\t0\t1\t4\t10\n" (none (514 ∷ 1 ∷ []))
+    ∷ known "events\t2\t4\nrule\t0\t1\t4\t10\n" (solved (pos 0 ∷ pos 4 ∷ []) [])
+    ∷ known "events\t2\t9\nwish\t0\t1\t0\t2\t1\t2\n" (refusal 6 2)
+    ∷ known "events\t2\t9\nrule\t1\t1\t5\t4\n" (refusal 4 2)
+    ∷ known "events\t2\t9\nrule\t1\t1\t4\t5\n" (refusal 5 2)
+    ∷ known "events\t2\t9\nrule\t0\t1\t-0\t4\n" (refusal 2 2)
+    ∷ known "events\t2\t9\nrule\t0\t1\t-100001\t4\n" (refusal 4 2)
+    ∷ known "" (refusal 2 1)
+    ∷ []

@@ -1,0 +1,2 @@
+-- The kit for signed numbers: laws and the ruleset.
+pub mod Ticks

@@ -1,0 +1,1 @@
+// Signed numbers: the few leaf functions that the crates above share.
