@@ -7,3 +7,4 @@ pub mod Bounds
 pub mod Ladder
 pub mod Outcome
 pub mod Known
+pub mod Distances

@@ -1,1 +1,2 @@
--- Signed numbers.
+-- What the contracts of `ticks` cite.
+pub mod Min

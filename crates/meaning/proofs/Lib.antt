@@ -1,0 +1,2 @@
+-- What is true of the definitions.
+pub mod Distances
