@@ -11,9 +11,12 @@ use lib.Signed.{_≤ℤ_, _<ℤ_}
 use borrow.Author.Tests.{eqb-true, eqb-false, eq-eqb, ne-eqb}
 use Rattle.ticks.specs.Min.{minZ}
 use Rattle.ticks.proofs.Ticks.{up, dn, ticks, neg, sum}
-use Rattle.meaning.specs.Distances.{Distances, Closed, Keeps, Adds, Below, horizonOnly, latest, earliest}
+use Rattle.meaning.specs.Distances.{Closed, Keeps, Adds, Below, horizonOnly, latest, earliest}
 
--- and then none is below -H
+abbrev pub Distances : Type 0
+Distances = ℕ → ℕ → ℤ
+
+-- where no entry is above H, none is below −H
 pub above : {n H : ℕ} {D : Distances} → Closed n D → Below n H D → {i j : ℕ} → i < n → j < n → negℤ (pos H) ≤ℤ D i j
 above c r p q = omega (ticks, c .tri p q p, c .diag p, r .hi q p)
 

@@ -1,6 +1,5 @@
 -- Document 01 as definitions, a file a section: what must be believed.
 pub mod Plan
-pub mod Text
 pub mod Peak
 pub mod Reading
 pub mod Bounds

@@ -1,5 +1,5 @@
--- Single-peaked levels: document 01, section 4. And the run of a grade, found from both ends inward.
-use Prim.Native.Nat.{ℕ, suc, _≤_, _<_, _-_}
+-- Single-peaked levels: document 01, section 4.
+use Prim.Native.Nat.{ℕ, _≤_, _<_}
 use mathlib.Core.List.{List, [], _∷_}
 use mathlib.Core.Bool.{Bool, true, false, cond}
 use lib.Dec.{leb, ltb}
@@ -18,11 +18,3 @@ peakedFrom false x (z ∷ zs) = peakedFrom (ltb z x) z zs
 
 unfoldable pub peaked : List ℕ → Bool
 peaked ls = peakedFrom false 0 ls
-
--- the run of grade y: the first place at level y or more, and one past the last (where there is none: the length, and 0)
-pub record Run (y : ℕ) (ls : List ℕ) (first past : ℕ) : Type 0 where
-  pub within : past ≤ length ls
-  pub before : (j : ℕ) → j < first → getD ls j 0 < y
-  pub starts : first < length ls → y ≤ getD ls first 0
-  pub after : (j : ℕ) → past ≤ j → getD ls j 0 < y
-  pub ends : 0 < past → y ≤ getD ls (past - 1) 0

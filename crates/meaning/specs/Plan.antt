@@ -7,7 +7,7 @@ use lib.ListN.{length, getD}
 use lib.IntN.{ℤ, pos, _+ℤ_, _-ℤ_, natAbs}
 use lib.Signed.{_≤ℤ_, nonNeg}
 
--- ---- what is allowed
+-- ---- what is allowed: the table of section 1. The ends lo and hi lie between −MOST-END and MOST-END
 
 abbrev pub MOST-EVENTS : ℕ
 MOST-EVENTS = 64
@@ -15,7 +15,6 @@ MOST-EVENTS = 64
 abbrev pub MOST-HORIZON : ℕ
 MOST-HORIZON = 100000
 
--- the ends lo and hi lie between this number's negative and it
 abbrev pub MOST-END : ℕ
 MOST-END = 100000
 

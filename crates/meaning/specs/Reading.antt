@@ -1,27 +1,92 @@
--- The reading of a plan text: document 01, sections 2 and 3. A plan, or the number and the line of the first fault.
-use Prim.Native.Nat.{ℕ, _+_, _-_}
+-- The plan text: document 01, sections 2 and 3. Its reading is a plan, or the number and the line of the first fault.
+use Prim.Native.Nat.{ℕ, suc, _+_, _-_, _*_}
 use mathlib.Core.Bool.{Bool, true, false, cond, _&&_, not}
 use mathlib.Core.Option.{Option, none, some}
 use mathlib.Core.List.{List, [], _∷_, _++_, map}
 use lib.Dec.{leb, ltb, eqb}
-use lib.ListN.{length}
+use lib.ListN.{length, getD, drop}
 use lib.IntN.{ℤ, pos, negℤ, natAbs, _+ℤ_}
 use lib.Signed.{leZ, ltZ}
 use Rattle.meaning.specs.Plan.{Record, rule, wish, Plan, MOST-EVENTS, MOST-HORIZON, MOST-END, MOST-RECORDS, MOST-LEVELS, MOST-LEVELS-TOGETHER, MOST-BYTES, TOP-LEVEL}
-use Rattle.meaning.specs.Text.{TAB, LINE-FEED, EVENTS, RULE, WISH, same, split, numbers}
 use Rattle.meaning.specs.Peak.{peaked}
 
+-- ---- bytes
+
+abbrev pub TAB : ℕ
+TAB = 9
+
+abbrev pub LINE-FEED : ℕ
+LINE-FEED = 10
+
+abbrev pub EVENTS : List ℕ
+EVENTS = 101 ∷ 118 ∷ 101 ∷ 110 ∷ 116 ∷ 115 ∷ []
+
+abbrev pub RULE : List ℕ
+RULE = 114 ∷ 117 ∷ 108 ∷ 101 ∷ []
+
+abbrev pub WISH : List ℕ
+WISH = 119 ∷ 105 ∷ 115 ∷ 104 ∷ []
+
+-- two lists of bytes are the same
+abbrev pub same : List ℕ → List ℕ → Bool
+same [] [] = true
+same [] (y ∷ ys) = false
+same (x ∷ xs) [] = false
+same (x ∷ xs) (y ∷ ys) = eqb x y && same xs ys
+
+-- ---- lines and fields
+
+-- x at the front of the first piece
+abbrev pub grow : ℕ → List (List ℕ) → List (List ℕ)
+grow x [] = (x ∷ []) ∷ []
+grow x (p ∷ ps) = (x ∷ p) ∷ ps
+
+-- the pieces that the byte b parts: always one more than there are b's
+unfoldable pub split : ℕ → List ℕ → List (List ℕ)
+split b [] = [] ∷ []
+split b (x ∷ xs) = let r = split b xs in cond (eqb x b) ([] ∷ r) (grow x r)
+
+-- ---- numbers: an optional minus (byte 45) and 1 to 7 decimal digits (48 to 57), no plus, no leading zero except in 0 itself, no −0
+
+abbrev pub isDigit : ℕ → Bool
+isDigit b = leb 48 b && leb b 57
+
+-- v with one digit more for each byte; none where a byte is no digit
+abbrev pub runFrom : ℕ → List ℕ → Option ℕ
+runFrom v [] = some v
+runFrom v (x ∷ xs) = let r = runFrom (v * 10 + (x - 48)) xs in cond (isDigit x) r none
+
+-- a zero that another digit follows
+abbrev pub leadingZero : List ℕ → Bool
+leadingZero [] = false
+leadingZero (x ∷ xs) = eqb x 48 && ltb 0 (length xs)
+
+unfoldable pub digitsOf : List ℕ → Option ℕ
+digitsOf f = cond (leb 1 (length f) && leb (length f) 7 && not (leadingZero f)) (runFrom 0 f) none
+
+abbrev pub minus : Option ℕ → Option ℤ
+minus none = none
+minus (some v) = cond (eqb v 0) none (some (negℤ (pos v)))
+
+abbrev pub plus : Option ℕ → Option ℤ
+plus none = none
+plus (some v) = some (pos v)
+
+unfoldable pub numberOf : List ℕ → Option ℤ
+numberOf [] = none
+numberOf (x ∷ xs) = cond (eqb x 45) (minus (digitsOf xs)) (plus (digitsOf (x ∷ xs)))
+
+abbrev pub join : Option ℤ → Option (List ℤ) → Option (List ℤ)
+join none vs = none
+join (some v) none = none
+join (some v) (some vs) = some (v ∷ vs)
+
+-- fields that are all numbers
+abbrev pub numbers : List (List ℕ) → Option (List ℤ)
+numbers [] = some []
+numbers (f ∷ fs) = join (numberOf f) (numbers fs)
+
 -- ---- the form of a line, without its line feed
-
-pub data Word : Type 0 where
-  eventsWord : Word
-  ruleWord : Word
-  wishWord : Word
-  otherWord : Word
-
--- the words are lower case and exact
-unfoldable pub wordOf : List ℕ → Word
-wordOf f = cond (same f EVENTS) eventsWord (cond (same f RULE) ruleWord (cond (same f WISH) wishWord otherWord))
 
 pub data Form : Type 0 where
   eventsLine : (n h : ℤ) → Form
@@ -29,43 +94,28 @@ pub data Form : Type 0 where
   wishLine : (a b lo : ℤ) (levels : List ℤ) → Form
   wrong : Form
 
+abbrev pub item : List ℤ → ℕ → ℤ
+item vs k = getD vs k (pos 0)
+
 -- `events`, n, H
 abbrev pub eventsForm : List ℤ → Form
-eventsForm [] = wrong
-eventsForm (n ∷ []) = wrong
-eventsForm (n ∷ h ∷ []) = eventsLine n h
-eventsForm (n ∷ h ∷ x ∷ xs) = wrong
+eventsForm vs = cond (eqb (length vs) 2) (eventsLine (item vs 0) (item vs 1)) wrong
 
 -- `rule`, a, b, lo, hi
 abbrev pub ruleForm : List ℤ → Form
-ruleForm [] = wrong
-ruleForm (a ∷ []) = wrong
-ruleForm (a ∷ b ∷ []) = wrong
-ruleForm (a ∷ b ∷ lo ∷ []) = wrong
-ruleForm (a ∷ b ∷ lo ∷ hi ∷ []) = ruleLine a b lo hi
-ruleForm (a ∷ b ∷ lo ∷ hi ∷ x ∷ xs) = wrong
+ruleForm vs = cond (eqb (length vs) 4) (ruleLine (item vs 0) (item vs 1) (item vs 2) (item vs 3)) wrong
 
 -- `wish`, a, b, lo and one or more levels
 abbrev pub wishForm : List ℤ → Form
-wishForm [] = wrong
-wishForm (a ∷ []) = wrong
-wishForm (a ∷ b ∷ []) = wrong
-wishForm (a ∷ b ∷ lo ∷ []) = wrong
-wishForm (a ∷ b ∷ lo ∷ l ∷ ls) = wishLine a b lo (l ∷ ls)
+wishForm vs = cond (leb 4 (length vs)) (wishLine (item vs 0) (item vs 1) (item vs 2) (drop 3 vs)) wrong
 
-abbrev pub formOf : Word → Option (List ℤ) → Form
-formOf w none = wrong
-formOf eventsWord (some vs) = eventsForm vs
-formOf ruleWord (some vs) = ruleForm vs
-formOf wishWord (some vs) = wishForm vs
-formOf otherWord (some vs) = wrong
-
-abbrev pub fieldsForm : List (List ℕ) → Form
-fieldsForm [] = wrong
-fieldsForm (w ∷ fs) = formOf (wordOf w) (numbers fs)
+-- the words are lower case and exact
+abbrev pub formOf : List ℕ → Option (List ℤ) → Form
+formOf word none = wrong
+formOf word (some vs) = cond (same word EVENTS) (eventsForm vs) (cond (same word RULE) (ruleForm vs) (cond (same word WISH) (wishForm vs) wrong))
 
 unfoldable pub lineForm : List ℕ → Form
-lineForm l = fieldsForm (split TAB l)
+lineForm l = elim (split TAB l) [ [] ↦ wrong | w ∷ fs ↦ formOf w (numbers fs) ]
 
 -- ---- what is in range
 
@@ -159,18 +209,12 @@ abbrev pub afterStep : ℕ → (Plan → Reading) → Step → Reading
 afterStep line k (taken q) = k q
 afterStep line k (fault n) = refused n line
 
-abbrev pub pickRest : List (List ℕ) → Reading → Reading → Reading
-pickRest [] a b = a
-pickRest (m ∷ ms) a b = b
-
 -- the pieces that line feeds part, the first of them line number `line`. The last one is what follows the last line feed:
 -- it has to be empty, and at least one line stands before it
 abbrev pub readPieces : List (List ℕ) → ℕ → Plan → Reading
 readPieces [] line p = refused 2 line
-readPieces (l ∷ ls) line p =
-    let here = cond (eqb (length l) 0 && ltb 1 line) (plan p) (refused 2 line) in
-    let next = afterStep line (λ (q : Plan). readPieces ls (line + 1) q) (lineStep line p (lineForm l)) in
-    pickRest ls here next
+readPieces (l ∷ []) line p = cond (eqb (length l) 0 && ltb 1 line) (plan p) (refused 2 line)
+readPieces (l ∷ m ∷ ms) line p = afterStep line (λ (q : Plan). readPieces (m ∷ ms) (line + 1) q) (lineStep line p (lineForm l))
 
 -- 3 at place 0 for the text's length; then the lines from the top
 unfoldable pub read : List ℕ → Reading
