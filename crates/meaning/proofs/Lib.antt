@@ -1,4 +1,20 @@
 -- What is true of the definitions.
-pub mod Faultless
+-- closed distances
 pub mod Distances
+-- levels and the ladder
 pub mod Run
+pub mod Peaks
+pub mod Replies
+pub mod Questions
+pub mod Best
+pub mod Climb
+pub mod Levels
+pub mod Fair
+pub mod Wishes
+-- a text's reading
+pub mod Faultless
+pub mod ReadGood
+-- the known plans
+pub mod EveryRow
+pub mod ChainTest
+pub mod KnownRight

@@ -1,0 +1,33 @@
+-- The levels of a timetable: one for each wish, and in a plan without fault none above the top level. By the list of records.
+use mathlib.Core.Path.{_≡_, refl, ap}
+use mathlib.Core.List.{List, [], _∷_}
+use mathlib.Core.Bool.{Bool, true, false, cond}
+use Prim.Native.Nat.{ℕ, zero, suc, _≤_, _<_, suc-le-suc, zero-le}
+use lib.ListN.{length, getD}
+use lib.IntN.{_-ℤ_, natAbs}
+use lib.Signed.{nonNeg}
+use Rattle.meaning.specs.Plan.{Record, rule, wish, nothing, Plan, Times, levelsOf, levels, wishCount, wishes, TOP-LEVEL}
+use Rattle.meaning.specs.Ladder.{lv}
+use Rattle.meaning.proofs.Faultless.{Levelled, WithoutFault}
+
+-- as many levels as wishes
+pub levels-count : (p : Plan) (t : Times) → length (levels p t) ≡ wishes p
+levels-count p t = go (p .records)
+  where
+    go : (rs : List Record) → length (levelsOf rs t) ≡ wishCount rs
+    go [] = refl
+    go (rule a b lo hi ∷ rs) = go rs
+    go (wish a b lo ls ∷ rs) = ap suc (go rs)
+
+pub levels-mild : {p : Plan} → WithoutFault p → (t : Times) (j : ℕ) → lv (levels p t) j ≤ TOP-LEVEL
+levels-mild {p} good t j = go (p .records) (λ k h. good .each k h .levelled) j
+  where
+    one : (c : Bool) (n : ℕ) → n ≤ TOP-LEVEL → cond c n 0 ≤ TOP-LEVEL
+    one true n h = h
+    one false n h = zero-le
+
+    go : (rs : List Record) → ((k : ℕ) → k < length rs → Levelled (getD rs k nothing)) → (j : ℕ) → lv (levelsOf rs t) j ≤ TOP-LEVEL
+    go [] f j = zero-le
+    go (rule a b lo hi ∷ rs) f j = go rs (λ k h. f (suc k) (suc-le-suc h)) j
+    go (wish a b lo ls ∷ rs) f zero = let i = natAbs (t b -ℤ t a -ℤ lo) in one (nonNeg (t b -ℤ t a -ℤ lo)) (getD ls i 0) (f 0 (suc-le-suc zero-le) .mild i)
+    go (wish a b lo ls ∷ rs) f (suc j) = go rs (λ k h. f (suc k) (suc-le-suc h)) j
