@@ -1,1 +1,2 @@
--- Sets of events.
+-- Sets of events as the binary digits of one number.
+pub mod Sets

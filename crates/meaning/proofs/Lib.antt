@@ -18,3 +18,13 @@ pub mod ReadGood
 pub mod EveryRow
 pub mod ChainTest
 pub mod KnownRight
+-- bounds, chains, and that an outcome exists
+pub mod Distinct
+pub mod Pigeons
+pub mod Bounds
+pub mod Stands
+pub mod Walks
+pub mod Chains
+pub mod Exists
+pub mod Solve
+pub mod Promises

@@ -1,0 +1,4 @@
+-- The laws of sets as numbers.
+pub mod Digits
+pub mod Laws
+pub mod Listed

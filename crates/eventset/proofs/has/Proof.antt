@@ -1,0 +1,17 @@
+-- `eventset::has` meets its contract: shifting by e brings the digit at place e to the bottom.
+use borrow.Author.Needs.{needs}
+use mathlib.Core.Path.{ap}
+use Prim.Native.Nat.{ℕ}
+use lib.Dec.{eqb}
+use Rattle.eventset.proofs.Digits.{digit-shr}
+use Rattle.eventset.proofs.has.Statement.{statement}
+use Rattle.eventset.proofs.has.Tie as tie
+
+shr-result : tie.Need-shr-result
+shr-result c = search needs
+
+returns : tie.Need-returns
+returns c = ap (λ (d : ℕ). eqb d 1) (digit-shr (c .before .args .s .bits) (c .before .args .e))
+
+pub has-spec : {M : Type 1} → statement M
+has-spec = tie.close (tie.spec shr-result returns)

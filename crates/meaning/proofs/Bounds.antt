@@ -1,0 +1,161 @@
+-- The bounds of a plan: which they are, that their events are two different ones of the plan, and that a timetable is a row of times
+-- that holds them all. A plan's timetables are told record by record too: `UpTo p k` keeps the horizon and the first k records.
+use mathlib.Core.Path.{_≡_, refl, sym, subst}
+use mathlib.Core.Logic.{_↔_, ⊎-elim}
+use mathlib.Core.List.{List, [], _∷_, List·Memᴰ, List·Memᴰ·head, List·Memᴰ·tail, List·Memᴰ·not-nil, List·Memᴰ·append-cases, Memᴰ·append-left, Memᴰ·append-right}
+use Prim.Native.Nat.{ℕ, zero, suc, _+_, _-_, _≤_, _<_, suc-le-suc}
+use native.Mathlib.Nat.{le-of-suc-le-suc, not-suc-le-zero}
+use native.Mathlib.Decide.{ℕ-discrete}
+use native.Mathlib.Omega.{arith}
+use lib.ListN.{length, getD}
+use lib.IntN.{pos, _+ℤ_}
+use lib.Signed.{_≤ℤ_}
+use Rattle.ticks.proofs.Ticks.{ticks}
+use Rattle.meaning.specs.Plan as P
+use Rattle.meaning.specs.Plan.{Record, nothing, Plan, recordAt, Times, Within, distance, Timetable}
+use Rattle.meaning.specs.Bounds.{Bound, upper, lower, horizonUpper, horizonLower, recordBounds, horizonBounds, bounds}
+use Rattle.meaning.proofs.Faultless.{WithoutFault}
+use Rattle.meaning.proofs.Distances.{Horizon}
+
+-- ---- which bounds they are
+
+abbrev pub Given : Plan → Bound → Type 0
+Given p b = List·Memᴰ b (bounds p)
+
+-- both bounds of a record, and of the horizon for an event
+abbrev Both : (Bound → Type 0) → ℕ → Record → Type 0
+Both C k r = C (upper k r) × C (lower k r)
+
+abbrev BothAt : (Bound → Type 0) → ℕ → ℕ → Type 0
+BothAt C H e = C (horizonUpper H e) × C (horizonLower e)
+
+module _ (C : Bound → Type 0) where
+  each-record : (k : ℕ) (rs : List Record) → ((i j : ℕ) → j ≡ k + i → i < length rs → Both C j (getD rs i nothing)) → (b : Bound) → List·Memᴰ b (recordBounds k rs) → C b
+  each-record k (r ∷ rs) f b (List·Memᴰ·head e) = subst C (sym e) (f 0 k (omega arith) (omega arith) .0)
+  each-record k (r ∷ rs) f b (List·Memᴰ·tail (List·Memᴰ·head e)) = subst C (sym e) (f 0 k (omega arith) (omega arith) .1)
+  each-record k (r ∷ rs) f b (List·Memᴰ·tail (List·Memᴰ·tail m)) = each-record (suc k) rs (λ i j e h. f (suc i) j (omega arith) (suc-le-suc h)) b m
+
+  each-event : (H e m : ℕ) → ((f : ℕ) → e ≤ f → f < e + m → BothAt C H f) → (b : Bound) → List·Memᴰ b (horizonBounds H e m) → C b
+  each-event H e zero f b m = absurd (List·Memᴰ·not-nil m)
+  each-event H e (suc m) f b (List·Memᴰ·head q) = subst C (sym q) (f e (omega arith) (omega arith) .0)
+  each-event H e (suc m) f b (List·Memᴰ·tail (List·Memᴰ·head q)) = subst C (sym q) (f e (omega arith) (omega arith) .1)
+  each-event H e (suc m) f b (List·Memᴰ·tail (List·Memᴰ·tail n)) = each-event H (suc e) m (λ g h l. f g (omega arith) (omega arith)) b n
+
+-- what is true of both bounds of each record and of each event other than 0 is true of every bound
+pub each-bound : (p : Plan) (C : Bound → Type 0) → ((k : ℕ) → k < length (p .records) → C (upper k (recordAt p k)) × C (lower k (recordAt p k))) →
+    ((e : ℕ) → 1 ≤ e → e < p .events → C (horizonUpper (p .horizon) e) × C (horizonLower e)) → (b : Bound) → Given p b → C b
+each-bound p C f g b m = ⊎-elim
+    (λ q. each-record C 0 (p .records) (λ i j e h. subst (λ (x : ℕ). Both C x (recordAt p i)) (omega arith) (f i h)) b q)
+    (λ q. each-event C (p .horizon) 1 (p .events - 1) (λ e h l. g e h (omega arith)) b q)
+    (List·Memᴰ·append-cases (recordBounds 0 (p .records)) m)
+
+given-record : (k : ℕ) (rs : List Record) (i j : ℕ) → j ≡ k + i → i < length rs → Both (λ b. List·Memᴰ b (recordBounds k rs)) j (getD rs i nothing)
+given-record k [] i j e h = absurd (not-suc-le-zero h)
+given-record k (r ∷ rs) zero j e h = subst (λ (x : ℕ). Both (λ b. List·Memᴰ b (recordBounds k (r ∷ rs))) x r) (omega arith) (List·Memᴰ·head refl, List·Memᴰ·tail (List·Memᴰ·head refl))
+given-record k (r ∷ rs) (suc i) j e h = let m = given-record (suc k) rs i j (omega arith) (le-of-suc-le-suc h) in (List·Memᴰ·tail (List·Memᴰ·tail (m .0)), List·Memᴰ·tail (List·Memᴰ·tail (m .1)))
+
+given-event : (H e m f : ℕ) → e ≤ f → f < e + m → BothAt (λ b. List·Memᴰ b (horizonBounds H e m)) H f
+given-event H e zero f h l = absurd (omega arith)
+given-event H e (suc m) f h l = go (ℕ-discrete e f) (λ k. given-event H (suc e) m f k (omega arith))
+  where
+    go : Dec (e ≡ f) → (suc e ≤ f → BothAt (λ b. List·Memᴰ b (horizonBounds H (suc e) m)) H f) → BothAt (λ b. List·Memᴰ b (horizonBounds H e (suc m))) H f
+    go (yes q) k = subst (λ (x : ℕ). BothAt (λ b. List·Memᴰ b (horizonBounds H e (suc m))) H x) q (List·Memᴰ·head refl, List·Memᴰ·tail (List·Memᴰ·head refl))
+    go (no q) k = let m = k (omega arith) in (List·Memᴰ·tail (List·Memᴰ·tail (m .0)), List·Memᴰ·tail (List·Memᴰ·tail (m .1)))
+
+module _ (p : Plan) where
+  pub given-upper : (k : ℕ) → k < length (p .records) → Given p (upper k (recordAt p k))
+  given-upper k h = Memᴰ·append-left (horizonBounds (p .horizon) 1 (p .events - 1)) (given-record 0 (p .records) k k (omega arith) h .0)
+
+  pub given-lower : (k : ℕ) → k < length (p .records) → Given p (lower k (recordAt p k))
+  given-lower k h = Memᴰ·append-left (horizonBounds (p .horizon) 1 (p .events - 1)) (given-record 0 (p .records) k k (omega arith) h .1)
+
+  pub given-horizon-upper : (e : ℕ) → 1 ≤ e → e < p .events → Given p (horizonUpper (p .horizon) e)
+  given-horizon-upper e h l = Memᴰ·append-right (recordBounds 0 (p .records)) (given-event (p .horizon) 1 (p .events - 1) e h (omega arith) .0)
+
+  pub given-horizon-lower : (e : ℕ) → 1 ≤ e → e < p .events → Given p (horizonLower e)
+  given-horizon-lower e h l = Memᴰ·append-right (recordBounds 0 (p .records)) (given-event (p .horizon) 1 (p .events - 1) e h (omega arith) .1)
+
+-- ---- their events
+
+-- a bound between two different events
+pub record Placed (n : ℕ) (b : Bound) : Type 0 where
+  pub starts : b .start < n
+  pub ends : b .end < n
+  pub apart : b .start ≡ b .end → ⊥
+
+pub bound-placed : (p : Plan) → WithoutFault p → (b : Bound) → Given p b → Placed (p .events) b
+bound-placed p w = each-bound p (Placed (p .events))
+    (λ k h. let g = w .each k h in (record { starts = g .starts; ends = g .ends; apart = g .apart }, record { starts = g .ends; ends = g .starts; apart = λ e. g .apart (sym e) }))
+    (λ e h l. (record { starts = omega arith; ends = l; apart = λ q. omega arith }, record { starts = l; ends = omega arith; apart = λ q. omega arith }))
+
+-- ---- a timetable holds the bounds
+
+abbrev pub Holds : Times → Bound → Type 0
+Holds t b = t (b .end) ≤ℤ (t (b .start) +ℤ b .weight)
+
+-- a record is kept where both its bounds hold
+pub kept-upper : (t : Times) (k : ℕ) (r : Record) → Within (P.low r) (distance t r) (P.high r) → Holds t (upper k r)
+kept-upper t k r w = omega (ticks, w .below)
+
+pub kept-lower : (t : Times) (k : ℕ) (r : Record) → Within (P.low r) (distance t r) (P.high r) → Holds t (lower k r)
+kept-lower t k r w = omega (ticks, w .above)
+
+pub held-record : (t : Times) (k : ℕ) (r : Record) → Holds t (upper k r) → Holds t (lower k r) → Within (P.low r) (distance t r) (P.high r)
+held-record t k r u l = record { above = omega ticks; below = omega ticks }
+
+pub timetable-holds : {p : Plan} {t : Times} → Timetable p t → (b : Bound) → Given p b → Holds t b
+timetable-holds {p} {t} h = each-bound p (Holds t)
+    (λ k l. (kept-upper t k (recordAt p k) (h .keeps k l), kept-lower t k (recordAt p k) (h .keeps k l)))
+    (λ e l m. (omega (ticks, h .origin, h .within e m .below), omega (ticks, h .origin, h .within e m .above)))
+
+pub holds-timetable : {p : Plan} {t : Times} → t 0 ≡ pos 0 → ((b : Bound) → Given p b → Holds t b) → Timetable p t
+holds-timetable {p} {t} o f = record {
+  origin = o;
+  within = λ e h. inside e h;
+  keeps = λ k h. held-record t k (recordAt p k) (f _ (given-upper p k h)) (f _ (given-lower p k h));
+}
+  where
+    inside : (e : ℕ) → e < p .events → Within (pos 0) (t e) (pos (p .horizon))
+    inside zero h = record { above = omega (ticks, o); below = omega (ticks, o) }
+    inside (suc e) h = record { above = omega (ticks, o, f _ (given-horizon-lower p (suc e) (omega arith) h)); below = omega (ticks, o, f _ (given-horizon-upper p (suc e) (omega arith) h)) }
+
+-- a timetable is a row of times from 0 on that holds every bound of the plan
+pub timetable-bounds : (p : Plan) (t : Times) → Timetable p t ↔ ((t 0 ≡ pos 0) × ((b : Bound) → Given p b → Holds t b))
+timetable-bounds p t = (λ h. (h .origin, timetable-holds h), λ y. holds-timetable (y .0) (y .1))
+
+-- ---- record by record
+
+-- keeps the horizon and the first k records
+pub record UpTo (p : Plan) (k : ℕ) (t : Times) : Type 0 where
+  pub inside : Horizon (p .events) (p .horizon) t
+  pub keeps : (j : ℕ) → j < k → Within (P.low (recordAt p j)) (distance t (recordAt p j)) (P.high (recordAt p j))
+
+module _ {p : Plan} {t : Times} where
+  pub up-to-none : Horizon (p .events) (p .horizon) t → UpTo p 0 t
+  up-to-none h = record { inside = h; keeps = λ j l. absurd (not-suc-le-zero l) }
+
+  -- one record more is its two bounds more
+  pub up-to-next : {k : ℕ} → UpTo p k t → Holds t (upper k (recordAt p k)) → Holds t (lower k (recordAt p k)) → UpTo p (suc k) t
+  up-to-next {k} h u l = record { inside = h .inside; keeps = λ j m. go j m (ℕ-discrete j k) }
+    where
+      go : (j : ℕ) → j < suc k → Dec (j ≡ k) → Within (P.low (recordAt p j)) (distance t (recordAt p j)) (P.high (recordAt p j))
+      go j m (yes e) = rw e (held-record t k (recordAt p k) u l)
+      go j m (no n) = h .keeps j (omega arith)
+
+  pub up-to-less : {k : ℕ} → UpTo p (suc k) t → UpTo p k t
+  up-to-less h = record { inside = h .inside; keeps = λ j m. h .keeps j (omega arith) }
+
+  pub up-to-upper : {k : ℕ} → UpTo p (suc k) t → Holds t (upper k (recordAt p k))
+  up-to-upper {k} h = kept-upper t k (recordAt p k) (h .keeps k (omega arith))
+
+  pub up-to-lower : {k : ℕ} → UpTo p (suc k) t → Holds t (lower k (recordAt p k))
+  up-to-lower {k} h = kept-lower t k (recordAt p k) (h .keeps k (omega arith))
+
+  pub up-to-all : UpTo p (length (p .records)) t → Timetable p t
+  up-to-all h = record { origin = h .inside .origin; within = λ e l. record { above = h .inside .low l; below = h .inside .high l }; keeps = h .keeps }
+
+  pub timetable-up-to : Timetable p t → (k : ℕ) → k ≤ length (p .records) → UpTo p k t
+  timetable-up-to h k l = record {
+    inside = record { origin = h .origin; low = λ {e} m. h .within e m .above; high = λ {e} m. h .within e m .below };
+    keeps = λ j m. h .keeps j (omega arith);
+  }

@@ -1,0 +1,150 @@
+-- Every plan without fault that has a timetable has its best ones, and one of them has the least time of every event: the climb of the
+-- ladder with a matrix for the timetables left. Each question is two bounds; they can be added (yes) or leave nothing (no).
+use mathlib.Core.Path.{_≡_, refl, ap, sym, subst⁻¹, _∙_}
+use mathlib.Core.Logic.{_↔_, _⊎_, inl, inr, ⊎-elim, ⊎-map}
+use mathlib.Core.List.{List, [], _∷_}
+use Prim.Native.Nat.{ℕ, zero, suc, _+_, _≤_, _<_}
+use native.Mathlib.Nat.{le-of-suc-le-suc, not-suc-le-zero}
+use native.Mathlib.Omega.{arith}
+use lib.ListN.{length, set, replicate, getD-replicate}
+use lib.IntN.{ℤ, pos, _+ℤ_, _-ℤ_}
+use lib.Signed.{_≤ℤ_}
+use Rattle.ticks.proofs.Ticks as K
+use Rattle.ticks.proofs.Ticks.{ticks}
+use Rattle.meaning.specs.Plan.{Record, rule, wish, Plan, recordAt, Times, Timetable, Within, wishes, TOP-LEVEL}
+use Rattle.meaning.specs.Bounds.{Bound, upper, lower}
+use Rattle.meaning.specs.Distances.{Keeps, earliest}
+use Rattle.meaning.specs.Outcome.{at, Solved}
+use Rattle.meaning.proofs.Run.{Run}
+use Rattle.meaning.proofs.Faultless.{WithoutFault, GoodRecord}
+use Rattle.meaning.proofs.Distances.{Distances, earliest-holds, earliest-least}
+use Rattle.meaning.proofs.Peaks.{InRun, runFirst, runPast, run-is}
+use Rattle.meaning.proofs.Wishes.{Left, number, ClimbedTo, climb-start, climb-rule, climb-yes, climb-within, climb-no, climb-next, ladder-solved}
+use Rattle.meaning.proofs.Bounds.{Placed, kept-upper, kept-lower, held-record}
+use Rattle.meaning.proofs.Stands.{Stands, stands-same, With, added, added-adds, stands-adds, stands-none, stands-earliest}
+use Rattle.meaning.proofs.Chains.{chain-excludes}
+use Rattle.meaning.proofs.Exists.{plan-held}
+
+-- ---- a distance between two ends, as the two bounds of a rule
+
+abbrev pub Between : ℕ → ℕ → ℤ → ℤ → (Times → Type 0) → Times → Type 0
+Between a b lo hi X t = X t × Within lo (t b -ℤ t a) hi
+
+abbrev pub TwoBounds : ℕ → ℕ → ℤ → ℤ → (Times → Type 0) → Times → Type 0
+TwoBounds a b lo hi X = With (lower 0 (rule a b lo hi)) (With (upper 0 (rule a b lo hi)) X)
+
+pub between-bounds : (a b : ℕ) (lo hi : ℤ) (X : Times → Type 0) (t : Times) → TwoBounds a b lo hi X t ↔ Between a b lo hi X t
+between-bounds a b lo hi X t = (
+  λ y. (y .0 .0, held-record t 0 (rule a b lo hi) (y .0 .1) (y .1)),
+  λ y. ((y .0, kept-upper t 0 (rule a b lo hi) (y .1)), kept-lower t 0 (rule a b lo hi) (y .1)),
+)
+
+-- a matrix for X, or nothing in X
+abbrev Found : ℕ → (Times → Type 0) → Type 0
+Found n X = ((D : Distances) × Stands n D X) ⊎ ((t : Times) → X t → ⊥)
+
+one-bound : {n : ℕ} {X : Times → Type 0} {β : Bound} → Placed n β → Found n X → Found n (With β X)
+one-bound l (inr f) = inr (λ t y. f t (y .0))
+one-bound {n} {X} {β} l (inl (D, s)) = ⊎-map (λ m. (added β D, stands-adds s l (added-adds n β D) m)) (λ m. stands-none s l m) (K.total (pos 0) (D (β .end) (β .start) +ℤ β .weight))
+
+two-bounds : {n a b : ℕ} → a < n → b < n → (a ≡ b → ⊥) → (lo hi : ℤ) (X : Times → Type 0) → Found n X → Found n (Between a b lo hi X)
+two-bounds {n} {a} {b} ha hb f lo hi X x = ⊎-map
+    (λ y. (y .0, stands-same (y .1) (between-bounds a b lo hi X)))
+    (λ q t y. q t (between-bounds a b lo hi X t .1 y))
+    (one-bound {β = lower 0 (rule a b lo hi)} (record { starts = hb; ends = ha; apart = λ e. f (sym e) }) (one-bound {β = upper 0 (rule a b lo hi)} (record { starts = ha; ends = hb; apart = f }) x))
+
+-- ---- no question yet: all timetables are left
+
+pub all-left : (p : Plan) (t : Times) → Timetable p t ↔ Left p (replicate (wishes p) 0) t
+all-left p t = (λ h. record { member = h; atLeast = λ j l. omega (arith, getD-replicate {A = ℕ} (wishes p) j 0 0 l) }, λ h. h .member)
+
+-- ---- the end: the least times of what is left
+
+-- rows of times that agree on the events
+keeps-agree : {n : ℕ} {D : Distances} {t : Times} (u : Times) → 0 < n → Keeps n D t → ((e : ℕ) → e < n → u e ≡ t e) → Keeps n D u
+keeps-agree u z h f = record { origin = f 0 z ∙ h .origin; kept = λ {i} {j} p q. omega (ticks, h .kept p q, f i p, f j q) }
+
+pub earliest-solved : {p : Plan} → WithoutFault p → {g : List ℕ} → ClimbedTo p TOP-LEVEL 0 g → {D : Distances} → Stands (p .events) D (Left p g) →
+    (ts : List ℤ) → length ts ≡ p .events → ((e : ℕ) → e < p .events → at ts e ≡ earliest D e) → Solved p ts g
+earliest-solved {p} w c {D} s ts n f =
+    ladder-solved p w c ts n (s .from (keeps-agree (at ts) (w .some) (earliest-holds (s .closed) (w .some)) f))
+    (λ u h e l. subst⁻¹ (λ z. z ≤ℤ u e) (f e l) (earliest-least (w .some) (s .into h) l))
+
+-- ---- rows of times as lists
+
+-- the times of the events from e on, m of them
+abbrev pub timesFrom : Times → ℕ → ℕ → List ℤ
+timesFrom t e zero = []
+timesFrom t e (suc m) = t e ∷ timesFrom t (suc e) m
+
+pub times-count : (t : Times) (e m : ℕ) → length (timesFrom t e m) ≡ m
+times-count t e zero = refl
+times-count t e (suc m) = ap suc (times-count t (suc e) m)
+
+pub times-at : (t : Times) (e m i : ℕ) → i < m → at (timesFrom t e m) i ≡ t (e + i)
+times-at t e zero i h = absurd (not-suc-le-zero h)
+times-at t e (suc m) zero h = ap t (omega arith)
+times-at t e (suc m) (suc i) h = times-at t (suc e) m i (le-of-suc-le-suc h) ∙ ap t (omega arith)
+
+-- ---- the climb, with a matrix for the timetables left
+
+module _ {p : Plan} (w : WithoutFault p) where
+  -- y grades are done, and r records of the next
+  record Stage (y r : ℕ) : Type 0 where
+    grades : List ℕ
+    climbed : ClimbedTo p y r grades
+    matrix : Distances
+    stands : Stands (p .events) matrix (Left p grades)
+
+  one-record : {y r : ℕ} → y < TOP-LEVEL → r < length (p .records) → Stage y r → Stage y (suc r)
+  one-record {y} {r} top h s = go (recordAt p r) refl (w .each r h)
+    where
+      go : (x : Record) → recordAt p r ≡ x → GoodRecord (p .events) x → Stage y (suc r)
+      go (rule a b lo hi) e q = record { grades = s .grades; climbed = climb-rule p (s .climbed) h e; matrix = s .matrix; stands = s .stands }
+      go (wish a b lo ls) e q = answered (two-bounds (q .starts) (q .ends) (q .apart) (lo +ℤ pos first) (lo +ℤ pos past -ℤ pos 1) (Left p (s .grades)) (inl (s .matrix, s .stands)))
+        where
+          first : ℕ
+          first = runFirst (suc y) ls
+
+          past : ℕ
+          past = runPast (suc y) ls
+
+          run : Run (suc y) ls first past
+          run = run-is (suc y) (omega arith) ls
+
+          answered : Found (p .events) (λ t. Left p (s .grades) t × InRun lo first past (t b -ℤ t a)) → Stage y (suc r)
+          answered (inl (D, t)) =
+              let u = stands-earliest (w .some) t in
+              record {
+                grades = set (s .grades) (number p r) (suc y);
+                climbed = climb-yes p (s .climbed) h e run (q .levelled .peaked) top (earliest D) (u .0) (u .1);
+                matrix = D;
+                stands = stands-same t (climb-within p (s .climbed) h e run (q .levelled .peaked) top);
+              }
+          answered (inr f) = record { grades = s .grades; climbed = climb-no p (s .climbed) h e run (q .levelled .peaked) top (λ u l i. f u (l, i)); matrix = s .matrix; stands = s .stands }
+
+  -- the first r records, at grade y + 1
+  records-asked : {y : ℕ} → y < TOP-LEVEL → Stage y 0 → (r : ℕ) → r ≤ length (p .records) → Stage y r
+  records-asked top s zero l = s
+  records-asked top s (suc r) l = one-record top l (records-asked top s r (omega arith))
+
+  one-grade : {y : ℕ} → y < TOP-LEVEL → Stage y 0 → Stage (suc y) 0
+  one-grade {y} top s =
+      let t : Stage y (length (p .records)) = records-asked top s (length (p .records)) (omega arith) in
+      record { grades = t .grades; climbed = climb-next p (t .climbed); matrix = t .matrix; stands = t .stands }
+
+  all-grades : Stage 0 0 → (y : ℕ) → y ≤ TOP-LEVEL → Stage y 0
+  all-grades s zero l = s
+  all-grades s (suc y) l = one-grade l (all-grades s y (omega arith))
+
+  -- best times, of them the least
+  pub plan-solved : {D : Distances} → Stands (p .events) D (Timetable p) → (ts : List ℤ) × (ls : List ℕ) × Solved p ts ls
+  plan-solved {D} s =
+      let z : Stage 0 0 = record { grades = replicate (wishes p) 0; climbed = climb-start p (earliest D) (stands-earliest (w .some) s); matrix = D; stands = stands-same s (all-left p) } in
+      let l : Stage TOP-LEVEL 0 = all-grades z TOP-LEVEL (omega arith) in
+      let t : Times = earliest (l .matrix) in
+      (timesFrom t 0 (p .events), l .grades, earliest-solved w (l .climbed) (l .stands) (timesFrom t 0 (p .events)) (times-count t 0 (p .events)) (λ e h. times-at t 0 (p .events) e h ∙ ap t (omega arith)))
+
+-- where there is a timetable there are best ones, and one of them has the least time of every event
+pub best-exists : {p : Plan} → WithoutFault p → {t : Times} → Timetable p t → (ts : List ℤ) × (ls : List ℕ) × Solved p ts ls
+best-exists w h = ⊎-elim (λ x. plan-solved w (x .1 .stands)) (λ c. absurd (chain-excludes (c .1) h)) (plan-held w)

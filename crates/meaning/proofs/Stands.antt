@@ -1,0 +1,75 @@
+-- A closed matrix stands for a set of rows of times. One bound more is one `Adds` more, and a plan's timetables come about from the
+-- horizon by two bounds for each record; where a bound cannot be added, no row of times is left.
+use mathlib.Core.Path.{refl}
+use mathlib.Core.Logic.{_↔_}
+use Prim.Native.Nat.{ℕ, suc, _<_}
+use native.Mathlib.Omega.{arith}
+use lib.ListN.{length}
+use lib.IntN.{pos, _+ℤ_}
+use lib.Signed.{_≤ℤ_, _<ℤ_}
+use Rattle.ticks.specs.Min.{minZ}
+use Rattle.ticks.proofs.Ticks.{ticks}
+use Rattle.meaning.specs.Plan.{Plan, recordAt, Times, Timetable}
+use Rattle.meaning.specs.Bounds.{Bound, upper, lower}
+use Rattle.meaning.specs.Distances.{Closed, Keeps, Adds, horizonOnly, earliest}
+use Rattle.meaning.proofs.Distances.{Distances, adds-closed, adds-keeps, adds-old, adds-new, start-closed, start-means, means-start, earliest-holds}
+use Rattle.meaning.proofs.Bounds.{Holds, Placed, UpTo, up-to-none, up-to-next, up-to-less, up-to-upper, up-to-lower, up-to-all, timetable-up-to}
+
+-- the rows of times that D stands for are those of X
+pub record Stands (n : ℕ) (D : Distances) (X : Times → Type 0) : Type 0 where
+  pub closed : Closed n D
+  pub into : {t : Times} → X t → Keeps n D t
+  pub from : {t : Times} → Keeps n D t → X t
+
+pub stands-same : {n : ℕ} {D : Distances} {X Y : Times → Type 0} → Stands n D X → ((t : Times) → X t ↔ Y t) → Stands n D Y
+stands-same s f = record { closed = s .closed; into = λ {t} y. s .into (f t .1 y); from = λ {t} k. f t .0 (s .from k) }
+
+-- X with the bound β
+abbrev pub With : Bound → (Times → Type 0) → Times → Type 0
+With β X t = X t × Holds t β
+
+-- β added to D gives D′
+abbrev pub AddsBound : ℕ → Bound → Distances → Distances → Type 0
+AddsBound n β D D′ = Adds n (β .start) (β .end) (β .weight) D D′
+
+-- as a function
+abbrev pub added : Bound → Distances → Distances
+added β D i j = minZ (D i j) ((D i (β .start) +ℤ β .weight) +ℤ D (β .end) j)
+
+pub added-adds : (n : ℕ) (β : Bound) (D : Distances) → AddsBound n β D (added β D)
+added-adds n β D = record { at = λ p q. refl }
+
+-- β can be added to D
+abbrev pub Meets : Bound → Distances → Type 0
+Meets β D = pos 0 ≤ℤ (D (β .end) (β .start) +ℤ β .weight)
+
+-- it cannot
+abbrev pub Clashes : Bound → Distances → Type 0
+Clashes β D = (D (β .end) (β .start) +ℤ β .weight) <ℤ pos 0
+
+module _ {n : ℕ} {β : Bound} {D : Distances} {X : Times → Type 0} (s : Stands n D X) (l : Placed n β) where
+  pub stands-adds : {D′ : Distances} → AddsBound n β D D′ → Meets β D → Stands n D′ (With β X)
+  stands-adds a m = record {
+    closed = adds-closed (s .closed) (l .starts) (l .ends) a m;
+    into = λ y. adds-keeps (s .closed) (l .starts) (l .ends) a (s .into (y .0)) (y .1);
+    from = λ k. (s .from (adds-old (s .closed) (l .starts) (l .ends) a k), adds-new (s .closed) (l .starts) (l .ends) a k);
+  }
+
+  pub stands-none : Clashes β D → (t : Times) → With β X t → ⊥
+  stands-none m t x = omega (ticks, s .into (x .0) .kept (l .ends) (l .starts), x .1)
+
+-- the least times of X are times of X
+pub stands-earliest : {n : ℕ} {D : Distances} {X : Times → Type 0} → 0 < n → Stands n D X → X (earliest D)
+stands-earliest z s = s .from (earliest-holds (s .closed) z)
+
+-- ---- a plan's timetables, record by record: horizon, then the upper and the lower bound of record k
+
+module _ (p : Plan) where
+  pub stands-horizon : 0 < p .events → Stands (p .events) (horizonOnly (p .horizon)) (UpTo p 0)
+  stands-horizon z = record { closed = start-closed (p .events) (p .horizon); into = λ u. means-start (u .inside); from = λ k. up-to-none (start-means z k) }
+
+  pub stands-next : {k : ℕ} {D : Distances} → Stands (p .events) D (With (lower k (recordAt p k)) (With (upper k (recordAt p k)) (UpTo p k))) → Stands (p .events) D (UpTo p (suc k))
+  stands-next s = stands-same s (λ t. (λ y. up-to-next (y .0 .0) (y .0 .1) (y .1), λ u. ((up-to-less u, up-to-upper u), up-to-lower u)))
+
+  pub stands-all : {D : Distances} → Stands (p .events) D (UpTo p (length (p .records))) → Stands (p .events) D (Timetable p)
+  stands-all s = stands-same s (λ t. (up-to-all, λ h. timetable-up-to h (length (p .records)) (omega arith)))
