@@ -1,0 +1,97 @@
+-- Rows of STRIDE entries in one list: an entry's place gives its row and column, and a row more is swept at a time.
+use Prim.Native.Nat.{ℕ, _+_, _*_, _/_, _%_, _<_, _≤_}
+use mathlib.Core.Path.{_≡_, refl, sym, ap, ap₂, _∙_}
+use mathlib.Core.Bool.{false}
+use mathlib.Core.List.{List}
+use native.Mathlib.Omega.{arith}
+use native.Mathlib.Decide.{decLt}
+use native.Mathlib.Nat.{not-suc-le-zero}
+use lib.IntN.{ℤ, pos, _+ℤ_}
+use lib.ListN.{length, getD}
+use lib.Seq.{ext-getD}
+use lib.Signed.{_≤ℤ_, ltZ}
+use borrow.Author.Count.{below-more}
+use Rattle.ticks.specs.Min.{minZ}
+use Rattle.ticks.proofs.Ticks.{ticks}
+use Rattle.distances.specs.Matrix.{STRIDE, ENTRIES, at, added, Changed}
+use Rattle.distances.specs.Sweep.{Swept}
+use Rattle.distances.specs.Rows.{lowered}
+use Rattle.distances.proofs.Sweep.{swept-as}
+
+-- a sweep over all entries, by rows and columns
+pub by-rows : {d d′ : List ℤ} (f : ℕ → ℕ → ℤ) → Swept (pos 0) d d′ 0 ENTRIES (λ k. f (k / STRIDE) (k % STRIDE)) →
+    (i j : ℕ) → i < STRIDE → j < STRIDE → at d′ i j ≡ f i j
+by-rows f s i j hi hj =
+    let e : 0 + (i * STRIDE + j) ≡ i * STRIDE + j = omega arith in
+    let q : (i * STRIDE + j) / STRIDE ≡ i = omega arith in
+    let r : (i * STRIDE + j) % STRIDE ≡ j = omega arith in
+    rw (e, q, r) at (s .done (i * STRIDE + j) (omega arith))
+
+-- row by row
+pub rows-none : {d : List ℤ} {n : ℕ} {f : ℕ → ℕ → ℤ} → Changed 0 n d d f
+rows-none =
+    record {
+      long = refl;
+      done = λ i j l k. absurd (not-suc-le-zero l);
+      beside = λ i j l k h. absurd (not-suc-le-zero l);
+      rest = λ k l. refl;
+    }
+
+pub rows-more : {d d′ d″ : List ℤ} {m n : ℕ} {f : ℕ → ℕ → ℤ} → n ≤ STRIDE → Changed m n d d′ f → Swept (pos 0) d′ d″ (m * STRIDE) n (f m) → Changed (m + 1) n d d″ f
+rows-more {d} {d′} {d″} {m} {n} {f} le r s =
+    record {
+      long = s .long ∙ r .long;
+      done = λ i j l k.
+          below-more (λ i. at d″ i j ≡ f i j) m
+          (λ i l. s .below (i * STRIDE + j) (omega arith) ∙ r .done i j l k)
+          (s .done j k) i l;
+      beside = λ i j l k h.
+          below-more (λ i. at d″ i j ≡ at d i j) m
+          (λ i l. s .below (i * STRIDE + j) (omega arith) ∙ r .beside i j l k h)
+          (s .above (m * STRIDE + j) (omega arith) ∙ r .rest (m * STRIDE + j) (omega arith)) i l;
+      rest = λ k l. s .above k (omega arith) ∙ r .rest k (omega arith);
+    }
+
+-- the row that comes next is still as it was
+pub rows-next : {d d′ : List ℤ} {m n : ℕ} {f : ℕ → ℕ → ℤ} → Changed m n d d′ f → (j : ℕ) → at d′ m j ≡ at d m j
+rows-next {m = m} r j = r .rest (m * STRIDE + j) (omega arith)
+
+pub rows-all : {d d′ : List ℤ} {m m′ n : ℕ} {f : ℕ → ℕ → ℤ} → Changed m n d d′ f → m ≤ m′ → m′ ≤ m → Changed m′ n d d′ f
+rows-all {m = m} {m′ = m′} s l g = let e : m ≡ m′ = omega arith in rw e at s
+
+-- the bound from a to b of weight w is in the first i rows of d₀, and via is row b of d₀
+pub record So-far (d₀ d via : List ℤ) (n a b i : ℕ) (w : ℤ) : Type 0 where
+  pub most : i ≤ n
+  pub rows : Changed i n d₀ d (added (at d₀) a b w)
+  pub long : length via ≡ STRIDE
+  pub via-is : (j : ℕ) → j < n → getD via j (pos 0) ≡ at d₀ b j
+
+pub one-more : {d₀ d d′ via : List ℤ} {n a b i : ℕ} {w : ℤ} → n ≤ STRIDE → i < n → So-far d₀ d via n a b i w →
+    Swept (pos 0) d d′ (i * STRIDE) n (lowered d i via (at d i a +ℤ w)) → So-far d₀ d′ via n a b (i + 1) w
+one-more {a = a} {w = w} few l h s =
+    let row = rows-next (h .rows) in
+    record {
+      most = omega arith;
+      rows = rows-more few (h .rows) (swept-as s (λ j k. ap₂ minZ (row j) (ap₂ _+ℤ_ (ap (λ (x : ℤ). x +ℤ w) (row a)) (h .via-is j k))));
+      long = h .long;
+      via-is = h .via-is;
+    }
+
+-- x is at most y + v, and s is not below y: x is at most s + v
+pub row-kept : (x y v s : ℤ) → x ≤ℤ (y +ℤ v) → ltZ s y ≡ false → x ≡ minZ x (s +ℤ v)
+row-kept x y v s h t = omega ticks
+
+-- an entry stands in a row and a column: what was written and what was kept leave one result only
+pub one-result : {n : ℕ} {d d₁ d₂ : List ℤ} {f : ℕ → ℕ → ℤ} → length d ≡ ENTRIES → n ≤ STRIDE → Changed n n d d₁ f → Changed n n d d₂ f → d₁ ≡ d₂
+one-result {n} {d} {d₁} {d₂} size few r s = ext-getD (pos 0) d₁ d₂ (r .long ∙ sym (s .long)) (λ k l. same k)
+  where
+    apart : (k : ℕ) → k / STRIDE * STRIDE + k % STRIDE ≡ k
+    apart k = omega arith
+
+    here : (i j : ℕ) → j < STRIDE → Dec (i < n) → Dec (j < n) → at d₁ i j ≡ at d₂ i j
+    here i j l (yes p) (yes q) = r .done i j p q ∙ sym (s .done i j p q)
+    here i j l (yes p) (no q) = r .beside i j p (omega arith) l ∙ sym (s .beside i j p (omega arith) l)
+    here i j l (no p) q = r .rest (i * STRIDE + j) (omega arith) ∙ sym (s .rest (i * STRIDE + j) (omega arith))
+
+    same : (k : ℕ) → getD d₁ k (pos 0) ≡ getD d₂ k (pos 0)
+    same k = rw (apart k) at (here (k / STRIDE) (k % STRIDE) (omega arith) (decLt (k / STRIDE) n) (decLt (k % STRIDE) n))

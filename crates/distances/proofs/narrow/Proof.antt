@@ -1,0 +1,85 @@
+-- `distances::narrow` meets its contract: where the run meets what is left, neither bound can fail.
+use mathlib.Core.Path.{_≡_, refl, sym, ap, _∙_}
+use mathlib.Core.Bool.{true≢false, false≢true}
+use lib.IntN.{negℤ}
+use mir.Facts.{toZ-ofZ}
+use mir.Syntax.{w32}
+use mir.Val.{toZ, ofZ}
+use denote.Ref.{now}
+use borrow.Author.Needs.{needs}
+use Rattle.distances.specs.Matrix.{at, added, meeting, Changed, Cut}
+use Rattle.ticks.proofs.Ticks.{back}
+use Rattle.distances.proofs.Range.{minus-fits}
+use Rattle.distances.proofs.Net.{Met, met, low-range, upper-asked, lower-asked, cut-net}
+use Rattle.distances.proofs.narrow.Statement.{statement}
+use Rattle.distances.proofs.narrow.Tie as tie
+
+meets-requires : tie.Need-meets-requires
+meets-requires c κs = let s = c .before in rw (toZ-ofZ (s .fits .lo), toZ-ofZ (s .fits .hi)) (s .pre)
+
+-- what is known on the way: the test, the negated end, and the first bound
+test : (c : tie.After-meets) → let s = c .before .before .args in c .meets .result ≡ meeting (at (now (s .d))) (s .a) (s .b) (s .lo) (s .hi)
+test c = rw (toZ-ofZ (c .before .before .fits .lo), toZ-ofZ (c .before .before .fits .hi)) at (c .meets .ensures)
+
+is-met : (c : tie.Then1) → let s = c .before .before .before .args in Met (at (now (s .d))) (s .a) (s .b) (s .lo) (s .hi)
+is-met c = met _ _ _ _ _ (sym (test (c .before)) ∙ c .if1 .taken)
+
+low : (c : tie.After-minus) → toZ w32 (ofZ w32 (c .minus .result)) ≡ negℤ (c .before .before .before .before .args .lo)
+low c = back w32 (c .minus .result) (c .minus .ok) ∙ c .minus .ensures ∙ ap negℤ (toZ-ofZ (c .before .before .before .before .fits .lo))
+
+first : (c : tie.After-insert) →
+    let s = c .before .before .before .before .before .before .args in Changed (s .n) (s .n) (now (s .d)) (c .insert .last .0) (added (at (now (s .d))) (s .a) (s .b) (s .hi))
+first c = rw (toZ-ofZ (c .before .before .before .before .before .before .fits .hi)) at (c .insert .ensures)
+
+minus-requires : tie.Need-minus-requires
+minus-requires c κs =
+    let s = c .before .before .before in
+    rw (toZ-ofZ (s .fits .lo)) (minus-fits _ (low-range (s .pre) (is-met c)))
+
+insert-requires : tie.Need-insert-requires
+insert-requires c κs =
+    let s = c .before .before .before .before .before in
+    rw (toZ-ofZ (s .fits .hi)) (upper-asked (s .pre) (is-met (c .before .before)))
+
+insert-requires-2 : tie.Need-insert-requires-2
+insert-requires-2 c κs =
+    let i = c .before .before in
+    let s = i .before .before .before .before .before .before in
+    rw (low (i .before .before)) (lower-asked (s .pre) (is-met (i .before .before .before)) (first i))
+
+same-length : tie.Need-same-length
+same-length c = search needs
+
+returns : tie.Need-returns
+returns c =
+    let i = c .before .before .before .before in
+    let s = i .before .before .before .before .before .before in
+    let t = i .before .before .before in
+    let cut : Cut (s .args .n) (s .args .a) (s .args .b) (s .args .lo) (s .args .hi) (now (s .args .d)) (c .before .insert2 .last .0) =
+    record { middle = i .insert .last .0; upper = first i; lower = rw (low (i .before .before)) at (c .before .insert2 .ensures) } in
+    record {
+      answer = sym (t .if1 .taken) ∙ test (t .before);
+      taken = λ e. cut;
+      refused = λ e. absurd (true≢false e);
+      net = λ {H} net. cut-net (s .pre) (is-met t) cut net;
+    }
+
+same-length-2 : tie.Need-same-length-2
+same-length-2 c = search needs
+
+returns-2 : tie.Need-returns-2
+returns-2 c =
+    record { answer = sym (c .if1 .left) ∙ test (c .before); taken = λ e. absurd (false≢true e); refused = λ e. refl; net = λ {H} net. net }
+
+pub narrow-spec : {M : Type 1} → statement M
+narrow-spec =
+    tie.close
+    (tie.spec
+    meets-requires
+    minus-requires
+    insert-requires
+    insert-requires-2
+    same-length
+    returns
+    same-length-2
+    returns-2)

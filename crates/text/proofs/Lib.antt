@@ -1,0 +1,9 @@
+-- Laws of parts of a list of bytes: pieces, digits, numbers and words.
+pub mod Slices
+pub mod Cuts
+pub mod Runs
+pub mod Numbers
+pub mod Sames
+pub mod Forms
+pub mod Decimals
+pub mod Writes

@@ -1,0 +1,6 @@
+-- How the leaf functions on bytes answer.
+pub mod Bytes
+pub mod Number
+pub mod Answers
+pub mod Words
+pub mod Written
