@@ -1,0 +1,77 @@
+-- `chain::mark` scans until b is marked. While it is not, a scan marks an event more, and there are no more than the set holds.
+use borrow.Author.Tests.{not-true, not-false}
+use mathlib.Core.Path.{_≡_, refl, sym, ap, _∙_}
+use Prim.Native.Nat.{ℕ, _-_}
+use native.Mathlib.Omega.{arith}
+use lib.ListN.{length}
+use lib.Count.{ones, ones-le}
+use Rattle.eventset.specs.Sets.{WIDTH, bitsOf, putIn}
+use Rattle.chain.specs.Marks.{Marked, root}
+use Rattle.chain.proofs.Marks.{tree-root, progress}
+use Rattle.chain.proofs.mark.Statement.{statement}
+use Rattle.chain.proofs.mark.Tie as tie
+
+abbrev Inv-loop : tie.InvT-loop
+Inv-loop list m d a b next₀ seen₀ next seen = Marked list d m a (bitsOf seen) next × (length next ≡ length next₀)
+
+abbrev μ-loop : tie.MeasureT-loop
+μ-loop list m d a b next₀ seen₀ next seen = WIDTH - ones (bitsOf seen)
+
+empty-requires : tie.Need-empty-requires Inv-loop μ-loop
+empty-requires c κs = tt
+
+put-requires : tie.Need-put-requires Inv-loop μ-loop
+put-requires c κs = let p = c .before .before .pre in omega (arith, p .to, p .table .events)
+
+loop-holds : tie.Need-loop-holds Inv-loop μ-loop
+loop-holds c =
+    let p = c .before .before .before .pre in
+    (record { tree = root (c .put .ensures ∙ ap (λ (x : ℕ). putIn x (c .before .before .before .args .a)) (c .before .empty .ensures)); room = p .room; low = p .low }, refl)
+
+has-requires : tie.Need-has-requires Inv-loop μ-loop
+has-requires c κs = let p = c .before .before .before .before .pre in omega (arith, p .from, p .table .events)
+
+scan-requires : tie.Need-scan-requires Inv-loop μ-loop
+scan-requires c κs =
+    let p = c .before .before .before .before .before .before .before .pre in
+    record { n = p .n; given = p .given; table = p .table; to = p .to; marked = c .before .before .before .loop .inv .0 }
+
+loop-less : tie.Need-loop-less Inv-loop μ-loop
+loop-less c =
+    let h = c .before .before .before .before .before .before .loop in
+    let q = c .before .before .before .before in
+    let p = c .before .before .before .before .before .before .before .before .before .before .pre in
+    let r = c .before .before .scan in
+    -- `.ok` has the range of the set's number
+    omega (
+      arith,
+      progress _ _ _ _ _ _ _ _ (r .ensures) (p .lead) (tree-root _ _ _ _ (h .inv .0 .tree)) (sym (q .before .has .ensures) ∙ not-true _ (q .if1 .taken)),
+      ones-le WIDTH (bitsOf (r .result)) (r .ok .1 .1 .0 .1),
+    )
+
+loop-again : tie.Need-loop-again Inv-loop μ-loop
+loop-again c =
+    let h = c .before .before .before .before .before .before .loop in
+    (c .before .before .scan .ensures .marked, c .before .before .scan .kept .1 .1 .1 .1 .1 .0 ∙ h .inv .1)
+
+same-length : tie.Need-same-length Inv-loop μ-loop
+same-length c = c .before .before .loop .inv .1
+
+returns : tie.Need-returns Inv-loop μ-loop
+returns c = record { marked = c .before .before .loop .inv .0; reached = sym (c .before .has .ensures) ∙ not-false _ (c .if1 .left) }
+
+pub mark-spec : {M : Type 1} → statement M
+mark-spec =
+    tie.close
+    (tie.spec
+    Inv-loop
+    μ-loop
+    empty-requires
+    put-requires
+    loop-holds
+    has-requires
+    scan-requires
+    loop-less
+    loop-again
+    same-length
+    returns)

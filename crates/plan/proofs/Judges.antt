@@ -1,0 +1,173 @@
+-- The faults of a line in their order: what the tests made so far say of `lineStep`.
+use mathlib.Core.Path.{_≡_, refl, sym, ap, _∙_}
+use mathlib.Core.Bool.{Bool, true, false, cond, _&&_, not}
+use mathlib.Core.List.{List, [], map}
+use Prim.Native.Nat.{ℕ, _+_, _≤_, _<_}
+use native.Mathlib.Omega.{arith}
+use borrow.Author.Tests.{eq-eqb, ne-eqb, lt-ltb, le-ltb, le-leb, lt-leb}
+use lib.Dec.{eqb, ltb, leb}
+use lib.ListN.{length, drop}
+use lib.IntN.{ℤ, pos, natAbs}
+use lib.Signed.{leZ}
+use Rattle.meaning.specs.Plan as M
+use Rattle.meaning.specs.Peak.{peaked}
+use Rattle.meaning.specs.Reading.{item, Form, eventsLine, ruleLine, wishLine, wrong, eventsForm, ruleForm, wishForm, Step, taken, fault, unless, lineStep, firstLine, laterLine, withRecord, between, isEvent, isEnd, inRange, sameEvent, lastOf, allLevels, levelsTogether}
+use Rattle.text.specs.declared.Word.{Word}
+use Rattle.plan.specs.declared.Fields.{Fields}
+use Rattle.plan.specs.declared.Line.{Line}
+use Rattle.plan.specs.Lines.{eventsFields, ruleFields, wishFields, wordForm, Numbers, Counts, Faulted, Says}
+use Rattle.plan.proofs.Tests.{and-false}
+
+-- a fault of a function that does not touch the area
+pub stays : (line : ℕ) (f : Form) (n count used : ℕ) (levels : List ℕ) (k : ℕ) → 0 < k → ((p : M.Plan) → Counts p n count used → lineStep line p f ≡ fault k)
+    → Faulted line f n count used levels levels k
+stays line f n count used levels k h s = record { some = h; step = s; above = λ i _. refl }
+
+first-not : (b : Bool) (f : Form) → firstLine f ≡ fault 2 → firstLine (cond b f wrong) ≡ fault 2
+first-not true f e = e
+first-not false f e = refl
+
+later-not : (p : M.Plan) (b : Bool) (f : Form) → laterLine p f ≡ fault 2 → laterLine p (cond b f wrong) ≡ fault 2
+later-not p true f e = e
+later-not p false f e = refl
+
+pub step-wrong : (line : ℕ) (p : M.Plan) → lineStep line p wrong ≡ fault 2
+unfolding lineStep
+step-wrong line p = go (eqb line 1)
+  where
+    go : (b : Bool) → cond b (firstLine wrong) (laterLine p wrong) ≡ fault 2
+    go true = refl
+    go false = refl
+
+-- what the answer says, once its case is known
+pub says-of : (line : ℕ) (f : Form) (n count used : ℕ) (before after : List ℕ) (r x : Line) → r ≡ x → Says line f n count used before after r → Says line f n count used before after x
+says-of line f n count used before after r x e s = rw (← e) s
+
+-- what a line with the word w gives, from the form that its fields have
+pub by-word : (line : ℕ) (f : Form) (w x : Word) (vs : List ℤ) (n count used : ℕ) (before after : List ℕ) (r : Line) → w ≡ x → f ≡ wordForm x vs
+    → Says line f n count used before after r → Says line (wordForm w vs) n count used before after r
+by-word line f w x vs n count used before after r e q s = rw (e, ← q) s
+
+-- the form by the first four numbers is the form by all
+module _ (vs : List ℤ) (f : Fields) (n : Numbers vs f) where
+  pub events-all : eventsFields f ≡ eventsForm vs
+  events-all = rw (n .count, n .at 0 (omega arith), n .at 1 (omega arith))
+
+  pub rule-all : ruleFields f ≡ ruleForm vs
+  rule-all = rw (n .count, n .at 0 (omega arith), n .at 1 (omega arith), n .at 2 (omega arith), n .at 3 (omega arith))
+
+  pub wish-all : wishFields f vs ≡ wishForm vs
+  wish-all = rw (n .count, n .at 0 (omega arith), n .at 1 (omega arith), n .at 2 (omega arith))
+
+module _ (line : ℕ) (f : Fields) (p : M.Plan) where
+  -- ---- `events`
+  pub ev-line : (line ≡ 1 → ⊥) → lineStep line p (eventsFields f) ≡ fault 2
+  unfolding lineStep
+  ev-line h = rw (ne-eqb line 1 h) (later-not p (eqb (f .count) 2) (eventsLine (item (f .first) 0) (item (f .first) 1)) refl)
+
+  pub ev-count : (f .count ≡ 2 → ⊥) → lineStep line p (eventsFields f) ≡ fault 2
+  ev-count k = rw (ne-eqb (f .count) 2 k) (step-wrong line p)
+
+  pub ev-step : line ≡ 1 → f .count ≡ 2 → lineStep line p (eventsFields f) ≡ firstLine (eventsLine (item (f .first) 0) (item (f .first) 1))
+  unfolding lineStep
+  ev-step h k = rw (eq-eqb line 1 h, eq-eqb (f .count) 2 k)
+
+  -- ---- `rule`
+  pub rl-line : line ≡ 1 → lineStep line p (ruleFields f) ≡ fault 2
+  unfolding lineStep
+  rl-line h = rw (eq-eqb line 1 h) (first-not (eqb (f .count) 4) (ruleLine (item (f .first) 0) (item (f .first) 1) (item (f .first) 2) (item (f .first) 3)) refl)
+
+  pub rl-count : (f .count ≡ 4 → ⊥) → lineStep line p (ruleFields f) ≡ fault 2
+  rl-count k = rw (ne-eqb (f .count) 4 k) (step-wrong line p)
+
+  pub rl-step : (line ≡ 1 → ⊥) → f .count ≡ 4
+      → lineStep line p (ruleFields f) ≡ laterLine p (ruleLine (item (f .first) 0) (item (f .first) 1) (item (f .first) 2) (item (f .first) 3))
+  unfolding lineStep
+  rl-step h k = rw (ne-eqb line 1 h, eq-eqb (f .count) 4 k)
+
+  -- ---- `wish`
+  pub wi-line : (vs : List ℤ) → line ≡ 1 → lineStep line p (wishFields f vs) ≡ fault 2
+  unfolding lineStep
+  wi-line vs h = rw (eq-eqb line 1 h) (first-not (leb 4 (f .count)) (wishLine (item (f .first) 0) (item (f .first) 1) (item (f .first) 2) (drop 3 vs)) refl)
+
+  pub wi-count : (vs : List ℤ) → f .count < 4 → lineStep line p (wishFields f vs) ≡ fault 2
+  wi-count vs k = rw (lt-leb 4 (f .count) k) (step-wrong line p)
+
+  pub wi-step : (vs : List ℤ) → (line ≡ 1 → ⊥) → 4 ≤ f .count
+      → lineStep line p (wishFields f vs) ≡ laterLine p (wishLine (item (f .first) 0) (item (f .first) 1) (item (f .first) 2) (drop 3 vs))
+  unfolding lineStep
+  wi-step vs h k = rw (ne-eqb line 1 h, le-leb 4 (f .count) k)
+
+-- ---- the tests of `events`
+module _ (n h : ℤ) where
+  pub hd-n : between (pos 1) (pos 64) n ≡ false → firstLine (eventsLine n h) ≡ fault 4
+  hd-n a = rw a
+
+  pub hd-h : between (pos 1) (pos 64) n ≡ true → between (pos 0) (pos 100000) h ≡ false → firstLine (eventsLine n h) ≡ fault 4
+  hd-h a b = rw (a, b)
+
+  pub hd-ok : between (pos 1) (pos 64) n ≡ true → between (pos 0) (pos 100000) h ≡ true
+      → firstLine (eventsLine n h) ≡ taken (record { events = natAbs n; horizon = natAbs h; records = [] })
+  hd-ok a b = rw (a, b)
+
+-- ---- the tests of `rule`
+module _ (p : M.Plan) (a b lo hi : ℤ) where
+  pub ru-full : 256 ≤ length (p .records) → laterLine p (ruleLine a b lo hi) ≡ fault 3
+  ru-full h = rw (le-ltb (length (p .records)) 256 h)
+
+  module _ (few : length (p .records) < 256) where
+    pub ru-range : inRange (p .events) a b lo hi ≡ false → laterLine p (ruleLine a b lo hi) ≡ fault 4
+    ru-range r = rw (lt-ltb (length (p .records)) 256 few, r)
+
+    module _ (r : inRange (p .events) a b lo hi ≡ true) where
+      pub ru-order : leZ lo hi ≡ false → laterLine p (ruleLine a b lo hi) ≡ fault 4
+      ru-order o = rw (lt-ltb (length (p .records)) 256 few, r, o)
+
+      pub ru-same : leZ lo hi ≡ true → sameEvent a b ≡ true → laterLine p (ruleLine a b lo hi) ≡ fault 5
+      ru-same o s = rw (lt-ltb (length (p .records)) 256 few, r, o, s)
+
+      pub ru-ok : leZ lo hi ≡ true → sameEvent a b ≡ false → laterLine p (ruleLine a b lo hi) ≡ taken (withRecord p (M.rule (natAbs a) (natAbs b) lo hi))
+      ru-ok o s = rw (lt-ltb (length (p .records)) 256 few, r, o, s)
+
+-- ---- the tests of `wish`
+abbrev pub room : M.Plan → ℕ → Bool
+room p n = ltb (length (p .records)) 256 && leb n 256 && leb (levelsTogether (p .records) + n) 8192
+
+module _ (p : M.Plan) (n : ℕ) where
+  pub room-k : 256 ≤ length (p .records) → room p n ≡ false
+  room-k h = rw (le-ltb (length (p .records)) 256 h)
+
+  pub room-n : length (p .records) < 256 → 256 < n → room p n ≡ false
+  room-n h k = rw (lt-ltb (length (p .records)) 256 h, lt-leb n 256 k)
+
+  pub room-u : length (p .records) < 256 → n ≤ 256 → 8192 < levelsTogether (p .records) + n → room p n ≡ false
+  room-u h k l = rw (lt-ltb (length (p .records)) 256 h, le-leb n 256 k, lt-leb (levelsTogether (p .records) + n) 8192 l)
+
+  pub room-yes : length (p .records) < 256 → n ≤ 256 → levelsTogether (p .records) + n ≤ 8192 → room p n ≡ true
+  room-yes h k l = rw (lt-ltb (length (p .records)) 256 h, le-leb n 256 k, le-leb (levelsTogether (p .records) + n) 8192 l)
+
+module _ (p : M.Plan) (a b lo : ℤ) (ls : List ℤ) where
+  pub lw-3 : room p (length ls) ≡ false → laterLine p (wishLine a b lo ls) ≡ fault 3
+  lw-3 r = rw r
+
+  module _ (r : room p (length ls) ≡ true) where
+    pub lw-end : isEnd lo ≡ false → laterLine p (wishLine a b lo ls) ≡ fault 4
+    lw-end e = rw (r, e, and-false (isEvent (p .events) b), and-false (isEvent (p .events) a))
+
+    pub lw-range : inRange (p .events) a b lo (lastOf lo ls) ≡ false → laterLine p (wishLine a b lo ls) ≡ fault 4
+    lw-range s = rw (r, s)
+
+    module _ (s : inRange (p .events) a b lo (lastOf lo ls) ≡ true) where
+      pub lw-level : allLevels ls ≡ false → laterLine p (wishLine a b lo ls) ≡ fault 4
+      lw-level l = rw (r, s, l)
+
+      module _ (l : allLevels ls ≡ true) where
+        pub lw-same : sameEvent a b ≡ true → laterLine p (wishLine a b lo ls) ≡ fault 5
+        lw-same t = rw (r, s, l, t)
+
+        pub lw-peak : sameEvent a b ≡ false → peaked (map natAbs ls) ≡ false → laterLine p (wishLine a b lo ls) ≡ fault 6
+        lw-peak t u = rw (r, s, l, t, u)
+
+        pub lw-ok : sameEvent a b ≡ false → peaked (map natAbs ls) ≡ true
+            → laterLine p (wishLine a b lo ls) ≡ taken (withRecord p (M.wish (natAbs a) (natAbs b) lo (map natAbs ls)))
+        lw-ok t u = rw (r, s, l, t, u)

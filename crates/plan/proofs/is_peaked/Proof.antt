@@ -1,0 +1,76 @@
+-- `plan::is_peaked` meets its contract: the one pass from here on gives what the whole gives.
+use mathlib.Core.Path.{_≡_, refl, sym, _∙_}
+use Prim.Native.Nat.{ℕ, _+_, _-_, _≤_, _<_}
+use native.Mathlib.Omega.{arith}
+use lib.ListN.{length, getD}
+use lib.Seq.{slice}
+use Rattle.meaning.specs.Peak.{peaked, peakedFrom}
+use Rattle.plan.proofs.Peaks.{peak-start, peak-up, peak-on, peak-end}
+use borrow.Author.Needs.{needs}
+use Rattle.plan.proofs.is_peaked.Statement.{statement}
+use Rattle.plan.proofs.is_peaked.Tie as tie
+use Rattle.plan.proofs.is_peaked.Reads as reads
+use Rattle.plan.proofs.is_peaked.Lts as lts
+use Rattle.plan.proofs.has_fallen.Reads as has-fallen-reads
+use Rattle.plan.proofs.up_again.Reads as up-again-reads
+
+abbrev Inv-loop : tie.InvT-loop
+Inv-loop levels at end fallen₀ x₀ i₀ fallen x i = (at ≤ i) × (i ≤ end) × (peakedFrom fallen x (slice i end levels) ≡ peaked (slice at end levels))
+
+abbrev μ-loop : tie.MeasureT-loop
+μ-loop levels at end fallen₀ x₀ i₀ fallen x i = end - i
+
+loop-holds : tie.Need-loop-holds Inv-loop μ-loop
+loop-holds c = (omega arith, c .before .pre .0, peak-start _)
+
+shared-slice-read-z : tie.Need-shared-slice-read-z Inv-loop μ-loop
+shared-slice-read-z c = omega arith
+
+up-again-requires : tie.Need-up-again-requires Inv-loop μ-loop
+up-again-requires c κs = search needs
+
+returns : tie.Need-returns Inv-loop μ-loop
+returns c =
+    let l = c .before .before .before .before .loop in
+    let a = c .before .before .before .before .before .before in
+    peak-up (l .fallen) (l .x) (a .args .levels .now) (a .args .at) (l .i) (a .args .end) (c .before .before .before .loop-test .taken) (a .pre .1) (l .inv .2) (sym (c .before .up-again .ensures) ∙ c .if1 .taken)
+
+has-fallen-requires : tie.Need-has-fallen-requires Inv-loop μ-loop
+has-fallen-requires c κs = search needs
+
+add-i : tie.Need-add-i Inv-loop μ-loop
+add-i c = omega arith
+
+loop-less : tie.Need-loop-less Inv-loop μ-loop
+loop-less c = omega arith
+
+loop-again : tie.Need-loop-again Inv-loop μ-loop
+loop-again c =
+    let l = c .before .before .before .before .before .loop in
+    let a = c .before .before .before .before .before .before .before in (
+      omega arith,
+      omega (arith, c .before .before .before .before .loop-test .taken),
+      rw (c .has-fallen .ensures) (peak-on (l .fallen) (l .x) (a .args .levels .now) (a .args .at) (l .i) (a .args .end) (c .before .before .before .before .loop-test .taken) (a .pre .1) (l .inv .2) (sym (c .before .before .up-again .ensures) ∙ c .before .if1 .left)),
+    )
+
+returns-2 : tie.Need-returns-2 Inv-loop μ-loop
+returns-2 c =
+    let l = c .before .loop in
+    let a = c .before .before .before in
+    peak-end (l .fallen) (l .x) (a .args .levels .now) (a .args .at) (l .i) (a .args .end) (omega (arith, c .loop-test .left, l .inv .1)) (l .inv .2)
+
+pub is-peaked-spec : {M : Type 1} → statement M
+is-peaked-spec =
+    tie.close
+    (tie.spec
+    Inv-loop
+    μ-loop
+    loop-holds
+    shared-slice-read-z
+    up-again-requires
+    returns
+    has-fallen-requires
+    add-i
+    loop-less
+    loop-again
+    returns-2)

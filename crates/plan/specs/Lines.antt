@@ -1,0 +1,121 @@
+-- What one line of a text gives: its numbers, its levels, and what it does to the plan read so far.
+use mathlib.Core.Path.{_≡_}
+use mathlib.Core.Bool.{Bool, true, cond}
+use mathlib.Core.Option.{Option, none, some}
+use mathlib.Core.List.{List, [], map}
+use Prim.Native.Nat.{ℕ, _+_, _≤_, _<_}
+use lib.Dec.{eqb, leb}
+use lib.ListN.{length, getD, drop}
+use lib.Seq.{slice, sets}
+use lib.IntN.{ℤ, pos, natAbs}
+use Rattle.meaning.specs.Plan as M
+use Rattle.meaning.specs.Plan.{MOST-EVENTS, MOST-RECORDS, MOST-LEVELS-TOGETHER}
+use Rattle.meaning.specs.Reading.{TAB, item, numbers, allLevels, Form, eventsLine, ruleLine, wishLine, wrong, eventsForm, ruleForm, wishForm, Step, taken, fault, lineStep, withRecord, levelsTogether, LINE-FEED, split, readPieces, plan, empty}
+use Rattle.text.specs.Bytes.{after}
+use Rattle.text.specs.declared.Word.{Word}
+use Rattle.text.specs.declared.Word.the-variants.{Events, Rule, Wish, Other}
+use Rattle.plan.specs.Held.{levelsIn, rowOf, verdictOf, Holds, LevelsHeld}
+use Rattle.plan.specs.declared.Record.{Record}
+use Rattle.plan.specs.declared.Fields.{Fields}
+use Rattle.plan.specs.declared.Answer.{Answer}
+use Rattle.plan.specs.declared.Line.{Line}
+use Rattle.plan.specs.declared.Line.the-variants.{Fault, Head, Entry}
+
+-- ---- the numbers of a line
+
+-- the numbers of a line: how many there are, and the first four
+pub record Numbers (vs : List ℤ) (f : Fields) : Type 0 where
+  pub count : f .count ≡ length vs
+  pub size : length (f .first) ≡ 4
+  pub at : (k : ℕ) → k < 4 → getD (f .first) k (pos 0) ≡ item vs k
+
+abbrev pub orNone : Option (List ℤ) → List ℤ
+orNone none = []
+orNone (some vs) = vs
+
+-- the numbers that follow a tab at the front, where the fields are numbers
+abbrev pub restOf : List ℕ → List ℤ
+restOf l = orNone (numbers (after TAB l))
+
+-- the fields from place p of the text to the end of the line are numbers
+pub record Fielded (text : List ℕ) (p end : ℕ) : Type 0 where
+  pub inside : p ≤ end
+  pub within : end ≤ length text
+  pub all : numbers (after TAB (slice p end text)) ≡ some (restOf (slice p end text))
+
+-- numbers read as levels into the area from place `used` on; where one is no level the area's rest is as before
+pub record LevelsRead (vs : List ℤ) (used : ℕ) (before after : List ℕ) (r : Bool) : Type 0 where
+  pub said : r ≡ allLevels vs
+  pub stored : r ≡ true → after ≡ sets before used (map natAbs vs)
+  pub above : (i : ℕ) → MOST-LEVELS-TOGETHER ≤ i → getD after i 0 ≡ getD before i 0
+
+-- r is the place from which the numbers but the first three are left
+pub record AfterThree (text : List ℕ) (first end r : ℕ) : Type 0 where
+  pub fielded : Fielded text r end
+  pub rest : drop 3 (restOf (slice first end text)) ≡ restOf (slice r end text)
+
+-- ---- the form of a line by its first field and its numbers
+
+abbrev pub wordForm : Word → List ℤ → Form
+wordForm Events vs = eventsForm vs
+wordForm Rule vs = ruleForm vs
+wordForm Wish vs = wishForm vs
+wordForm Other vs = wrong
+
+-- the same by the count of the numbers and the first four
+abbrev pub eventsFields : Fields → Form
+eventsFields f = cond (eqb (f .count) 2) (eventsLine (item (f .first) 0) (item (f .first) 1)) wrong
+
+abbrev pub ruleFields : Fields → Form
+ruleFields f = cond (eqb (f .count) 4) (ruleLine (item (f .first) 0) (item (f .first) 1) (item (f .first) 2) (item (f .first) 3)) wrong
+
+abbrev pub wishFields : Fields → List ℤ → Form
+wishFields f vs = cond (leb 4 (f .count)) (wishLine (item (f .first) 0) (item (f .first) 1) (item (f .first) 2) (drop 3 vs)) wrong
+
+-- a record from the numbers of its line: its `count` levels stand from place `first` on
+abbrev pub asRow : ℤ → ℤ → ℕ → ℕ → ℤ → ℤ → Record
+asRow a b first count lo hi = record { a = natAbs a; b = natAbs b; first = first; count = count; lo = lo; hi = hi }
+
+-- ---- what a line does
+
+-- p has n events, and `count` records with `used` levels together
+pub record Counts (p : M.Plan) (n count used : ℕ) : Type 0 where
+  pub events : p .events ≡ n
+  pub records : length (p .records) ≡ count
+  pub levels : levelsTogether (p .records) ≡ used
+
+-- a fault k; the area is kept past the place of the last possible level
+pub record Faulted (line : ℕ) (f : Form) (n count used : ℕ) (before after : List ℕ) (k : ℕ) : Type 0 where
+  pub some : 0 < k
+  pub step : (p : M.Plan) → Counts p n count used → lineStep line p f ≡ fault k
+  pub above : (i : ℕ) → MOST-LEVELS-TOGETHER ≤ i → getD after i 0 ≡ getD before i 0
+
+-- m events and the horizon h, from the first line
+pub record Headed (line : ℕ) (f : Form) (before after : List ℕ) (m h : ℕ) : Type 0 where
+  pub first : line ≡ 1
+  pub most : m ≤ MOST-EVENTS
+  pub step : (p : M.Plan) → lineStep line p f ≡ taken (record { events = m; horizon = h; records = [] })
+  pub kept : after ≡ before
+
+-- one record more, its levels stored after those of the others
+pub record Entered (line : ℕ) (f : Form) (n count used : ℕ) (before after : List ℕ) (r : Record) : Type 0 where
+  pub entry : M.Record
+  pub row : r ≡ rowOf used entry
+  pub few : count < MOST-RECORDS
+  pub room : used + length (levelsIn entry) ≤ MOST-LEVELS-TOGETHER
+  pub step : (p : M.Plan) → Counts p n count used → lineStep line p f ≡ taken (withRecord p entry)
+  pub stored : after ≡ sets before used (levelsIn entry)
+
+-- what the line gives, by the answer's case
+abbrev pub Says : ℕ → Form → ℕ → ℕ → ℕ → List ℕ → List ℕ → Line → Type 0
+Says line f n count used before after (Fault k) = Faulted line f n count used before after k
+Says line f n count used before after (Head m h) = Headed line f before after m h
+Says line f n count used before after (Entry r) = Entered line f n count used before after r
+
+-- ---- what the lines of a text give
+
+-- the verdict, and where it is a plan its image in memory; after a fault only the area's rest is known
+pub record Walked (text before after : List ℕ) (r : Answer) : Type 0 where
+  pub verdict : r .verdict ≡ verdictOf (readPieces (split LINE-FEED text) 1 empty)
+  pub found : (p : M.Plan) → readPieces (split LINE-FEED text) 1 empty ≡ plan p → Holds p (r .plan) × LevelsHeld p before after
+  pub above : (i : ℕ) → MOST-LEVELS-TOGETHER ≤ i → getD after i 0 ≡ getD before i 0
