@@ -47,8 +47,8 @@ module _ (p : M.Plan) (m : M.Record) where
     used = omega (arith, o .used, together-more (p .records) m);
     size = length-set (h .records) (h .count) (rowOf (h .used) m) ∙ o .size;
     rows = λ k.
-      rw (rows-more 0 (h .used) (p .records) m (omega (arith, o .used)))
-      (one-more blank (λ _. Unit {0}) (h .records) (rowsOf 0 (p .records)) (rowOf (h .used) m) (h .count) (o .count ∙ sym (length-rows 0 (p .records))) (omega (arith, o .size)) (λ i _. o .rows i) k tt);
+        rw (rows-more 0 (h .used) (p .records) m (omega (arith, o .used)))
+        (one-more blank (λ _. Unit {0}) (h .records) (rowsOf 0 (p .records)) (rowOf (h .used) m) (h .count) (o .count ∙ sym (length-rows 0 (p .records))) (omega (arith, o .size)) (λ i _. o .rows i) k tt);
   }
 
   pub held-more : (before after : List ℕ) (used : ℕ) → LevelsHeld p before after → used ≡ levelsTogether (p .records) → used + length (levelsIn m) ≤ 8192 → 8192 ≤ length before
@@ -56,8 +56,8 @@ module _ (p : M.Plan) (m : M.Record) where
   held-more before after used o e fits long = record {
     long = length-sets after used (levelsIn m) ∙ o .long;
     done = λ i h.
-      rw (flat-more (p .records) m)
-      (all-more 0 (λ k. k < 8192) (levelsIn m) after (flat (p .records)) used (e ∙ sym (length-flat (p .records))) (omega (arith, o .long)) (o .done) i h);
+        rw (flat-more (p .records) m)
+        (all-more 0 (λ k. k < 8192) (levelsIn m) after (flat (p .records)) used (e ∙ sym (length-flat (p .records))) (omega (arith, o .long)) (o .done) i h);
     rest = sets-above 8192 (levelsIn m) after before used fits (o .rest);
   }
 

@@ -17,11 +17,13 @@ module _ {A : Type 0} (d : A) (P : ℕ → Type 0) where
     where
       l : length (ys ++ (v ∷ [])) ≡ length ys + 1
       l = length-append ys (v ∷ [])
+
       other : (k ≡ n → ⊥) → (b : Bool) → ltb k n ≡ b → getD (set xs n v) k d ≡ getD (ys ++ (v ∷ [])) k d
       other ne true q = getD-set-other xs n k v d ne ∙ at k p ∙ sym (List·getD-append ys (v ∷ []) d k (omega (arith, ltb-true k n q)))
       other ne false q =
           let far : length (ys ++ (v ∷ [])) ≤ k = omega (arith, l, ltb-false k n q, ne) in
           getD-set-other xs n k v d ne ∙ at k p ∙ List·getD-eq-default ys d (omega (arith, ltb-false k n q)) ∙ sym (List·getD-eq-default (ys ++ (v ∷ [])) d far)
+
       here : (b : Bool) → eqb k n ≡ b → getD (set xs n v) k d ≡ getD (ys ++ (v ∷ [])) k d
       here true q =
           let kn : k ≡ n = eqb-true k n q in

@@ -47,6 +47,7 @@ one-answer text before x y q r a b = (same, area (leb 8192 (length before)) refl
         let h : q .plan ≡ r .plan = one-plan (planIn (heard before text)) (q .plan) (r .plan) (a .held) (b .held) in
         let e : answerOf (q .verdict) (q .plan) ≡ answerOf (r .verdict) (r .plan) = cc in
         e
+
     area : (t : Bool) → leb 8192 (length before) ≡ t → x ≡ y
     area true e =
         let h = leb-true 8192 (length before) e in

@@ -102,12 +102,16 @@ module _ (p : M.Plan) (h : Plan) (o : Holds p h) (f : WithoutFault p) where
         where
           n : ℕ
           n = placeOf (p .records) k
+
           m : ℕ
           m = length (levelsIn (recordAt p k))
+
           fits : n + m ≤ 8192
           fits = omega (arith, place-fits (p .records) k k-in, f .together)
+
           sizes : length (slice n (n + m) area) ≡ m
           sizes = length-slice n (n + m) area (omega (arith, fits, l .long)) ∙ (omega arith)
+
           each : (j : ℕ) → j < m → getD (slice n (n + m) area) j 0 ≡ getD (levelsIn (recordAt p k)) j 0
           each j i =
               getD-drop n (take (n + m) area) j 0

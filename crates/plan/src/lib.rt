@@ -17,12 +17,19 @@ use text::Number;
 use text::Word;
 
 pub const MOST_EVENTS: i32 = 64;
+
 pub const MOST_HORIZON: i32 = 100000;
+
 pub const MOST_END: i32 = 100000;
+
 pub const MOST_RECORDS: usize = 256;
+
 pub const MOST_WISH_LEVELS: usize = 256;
+
 pub const MOST_LEVELS: usize = 8192;
+
 pub const MOST_BYTES: usize = 60000;
+
 pub const TOP_LEVEL: i32 = 15;
 
 // A rule (count 0), or a wish, whose levels are the count ones from first on in the area of all levels.
@@ -436,7 +443,18 @@ fn read_lines(text: &[u8], levels: &mut [u8]) -> Answer
             }
             p = next;
         }
-        match take_line(line, word, f, plan.events, plan.count, plan.used, text, first, end, levels) {
+        match take_line(
+            line,
+            word,
+            f,
+            plan.events,
+            plan.count,
+            plan.used,
+            text,
+            first,
+            end,
+            levels,
+        ) {
             Line::Fault(k) => {
                 fault = k;
                 break 'lines;

@@ -5,10 +5,8 @@ use Rattle.plan.proofs.has_fallen.Tie as tie
 use Rattle.plan.proofs.has_fallen.Reads as reads
 use Rattle.plan.proofs.has_fallen.Lts as lts
 
-
 returns : tie.Need-returns
 returns c = search needs
-
 
 returns-2 : tie.Need-returns-2
 returns-2 c = rw (c .if1 .left)

@@ -247,12 +247,12 @@ lines-less c = omega (arith, S.line-in (c .before .before .before .before .befor
 
 lines-again : tie.Need-lines-again Inv-loop μ-loop Inv-lines μ-lines
 lines-again c = (
-      c .before .before .before .before .before .before .loop .inv .none,
-      ⊎-elim
+  c .before .before .before .before .before .before .loop .inv .none,
+  ⊎-elim
       (λ x. rw (x .3) (headed (record { before = (record { before = (record { before = c .before; match2 = x .0 }); n = x .1 }); known-told3 = x .2 })))
       (λ x. rw (x .4) (entered (record { before = (record { before = (record { before = c .before; match2 = x .0 }); r = x .1 }); known-told4 = x .2 })))
       (c .match2 .came),
-    )
+)
 
 same-length : tie.Need-same-length Inv-loop μ-loop Inv-lines μ-lines
 same-length c = out-long (c .before .before)

@@ -1,0 +1,161 @@
+-- From what the parts of `settle` and `solve` promise one another to the outcome of a plan, and from that to the promise.
+use mathlib.Core.Path.{_≡_, refl, sym, ap, _∙_}
+use mathlib.Core.Bool.{Bool, true, false, cond, _&&_}
+use mathlib.Core.List.{List}
+use Prim.Native.Nat.{ℕ, _+_, _*_, _-_, _≤_, _<_}
+use native.Mathlib.Omega.{arith}
+use lib.Dec.{leb}
+use lib.ListN.{length}
+use lib.IntN.{ℤ, pos}
+use borrow.Author.Tests.{le-leb, lt-leb}
+use Rattle.meaning.specs.Plan as M
+use Rattle.meaning.specs.Plan.{MOST-EVENTS, MOST-RECORDS, MOST-LEVELS-TOGETHER}
+use Rattle.meaning.specs.Reading.{Reading, plan, refused, read}
+use Rattle.meaning.specs.Distances.{earliest}
+use Rattle.meaning.specs.Outcome as O
+use Rattle.meaning.specs.Outcome.{Areas, areas, longEnough, heard, written, Promise}
+use Rattle.meaning.proofs.Faultless.{WithoutFault}
+use Rattle.meaning.proofs.Levels.{levels-count}
+use Rattle.meaning.proofs.ReadGood.{read-faultless}
+use Rattle.meaning.proofs.Solve.{earliest-solved}
+use Rattle.plan.specs.declared.Plan.{Plan}
+use Rattle.plan.specs.declared.Answer.{Answer}
+use Rattle.plan.specs.declared.Verdict.{Verdict}
+use Rattle.plan.specs.declared.Verdict.the-variants.{Taken, Refused}
+use Rattle.plan.specs.Held as H
+use Rattle.plan.specs.Held.{LevelsHeld, Read, verdictOf, planIn}
+use Rattle.distances.specs.Matrix.{at, Started, Timing}
+use Rattle.distances.specs.Sweep.{Swept}
+use Rattle.distances.proofs.Sweep.{swept-written}
+use Rattle.chain.specs.declared.Bound.{Bound as Entry}
+use Rattle.chain.specs.Clash.{listed, Broken, Found}
+use Rattle.solver.specs.Listed.{Listed}
+use Rattle.solver.specs.Tried.{Trying, Tried}
+use Rattle.solver.specs.Climbed.{Ready, Climbed}
+use Rattle.solver.specs.Settled.{numberOf, placeOf, InMemory, Settled}
+use Rattle.solver.specs.declared.Outcome.{Outcome}
+use Rattle.solver.specs.declared.Outcome.the-variants as Out
+use Rattle.solver.proofs.Ends.{Chained, start-net, start-trying, all-stands, clash-broken, found-chained}
+
+-- ---- the outcome of a plan in memory
+
+-- the places in the list as the code counts them
+abbrev pub horizonPlace : Plan → ℕ
+horizonPlace h = 2 * (h .events - 1)
+
+abbrev pub lastPlace : Plan → ℕ
+lastPlace h = horizonPlace h + 2 * h .count
+
+module _ {p : M.Plan} {h : Plan} {held : List ℕ} {list : List Entry} (m : InMemory p h held) (s : Listed p list) {d : List ℤ} (o : Started (h .horizon) d) where
+  begun : Started (p .horizon) d
+  begun = rw (m .holds .horizon) at o
+
+  pub settle-trying : Trying list (horizonPlace h) (lastPlace h) (h .events) d
+  settle-trying = rw (m .holds .events, m .holds .count) (start-trying (m .faultless) s begun)
+
+  module _ {d′ : List ℤ} {r : ℕ} (a : Tried list (horizonPlace h) (lastPlace h) (h .events) d d′ r) where
+    tried : Tried list (2 * (p .events - 1)) (2 * (p .events - 1) + 2 * length (p .records)) (p .events) d d′ r
+    tried = rw (m .holds .events, m .holds .count) at a
+
+    pub settle-broken : r < lastPlace h → Broken list d′ (p .events) r
+    settle-broken l = clash-broken (m .faultless) s begun tried (rw (m .holds .events, m .holds .count) at l)
+
+    -- all bounds were added
+    pub settle-ready : lastPlace h ≤ r → Ready p h held d′
+    settle-ready l =
+        let e : r ≡ 2 * (p .events - 1) + 2 * length (p .records) = omega (arith, tried .high, rw (m .holds .events, m .holds .count) at l) in
+        record {
+          holds = m .holds;
+          faultless = m .faultless;
+          room = m .room;
+          levels = m .levels;
+          net = tried .net (start-net (m .faultless) s begun);
+          stands = all-stands (m .faultless) s begun (rw e at tried);
+        }
+
+  -- a chain was found
+  pub settle-chained : {r k : ℕ} {before after : List ℕ} → r < lastPlace h → Found (listed list (r + 1)) before k after → Chained p before k after
+  settle-chained l f = found-chained (m .faultless) s (rw (m .holds .events, m .holds .count) at l) f
+
+pub chained-settled : {p : M.Plan} {before after : List ℕ} {k : ℕ} (ts : List ℤ) (ls : List ℕ) → Chained p before k after → Settled p (areas ts ls before) (areas ts ls after) (Out.NoTimetable k)
+chained-settled ts ls c = record {
+  outcome = O.none (c .codes);
+  right = c .chain;
+  numbered = refl;
+  placed = c .counted;
+  writes = ap (λ l. areas ts ls l) (c .written);
+}
+
+-- ---- the times and the levels
+
+module _ {p : M.Plan} {d : List ℤ} {before after : List ℕ} {r : ℕ} (w : WithoutFault p) (c : Climbed p d before after r) where
+  pub climbed-timing : {n : ℕ} {times : List ℤ} → n ≡ p .events → MOST-EVENTS ≤ length times → Timing n d times
+  climbed-timing e l = record { horizon = p .horizon; net = rw e (c .net); room = omega (arith, w .most) }
+
+  pub climbed-settled : {n : ℕ} {ts ts′ : List ℤ} (chain : List ℕ) → n ≡ p .events → MOST-EVENTS ≤ length ts → Swept (pos 0) ts ts′ 0 n (earliest (at d)) →
+      Settled p (areas ts before chain) (areas ts′ after chain) (Out.Solved r)
+  climbed-settled chain e l f =
+      let k = swept-written f (omega (arith, w .most)) in
+      let s = earliest-solved w (c .climbed) (c .stands) (k .front) (k .count ∙ e) (λ i q. k .entries i (omega arith)) in
+      record {
+        outcome = O.solved (k .front) (c .grades);
+        right = s;
+        numbered = refl;
+        placed = c .count ∙ sym (levels-count p (O.at (k .front))) ∙ sym (ap length (s .levelled));
+        writes = λ i. areas (k .over-old i) (c .written i) chain;
+      }
+
+-- ---- the promise
+
+too-short : (text : List ℕ) (a : Areas) → longEnough a ≡ false → Promise text a a 7 0
+too-short text a e = record { outcome = O.refusal 7 0; right = rw e (refl, refl); numbered = refl; placed = refl; writes = refl }
+
+module _ (text : List ℕ) (ts : List ℤ) (ls cs : List ℕ) where
+  pub times-short : length ts < MOST-EVENTS → Promise text (areas ts ls cs) (areas ts ls cs) 7 0
+  times-short h = too-short text (areas ts ls cs) (rw (lt-leb MOST-EVENTS (length ts) h))
+
+  pub levels-short : MOST-EVENTS ≤ length ts → length ls < MOST-RECORDS → Promise text (areas ts ls cs) (areas ts ls cs) 7 0
+  levels-short g h = too-short text (areas ts ls cs) (rw (le-leb MOST-EVENTS (length ts) g, lt-leb MOST-RECORDS (length ls) h))
+
+  pub chain-short : MOST-EVENTS ≤ length ts → MOST-RECORDS ≤ length ls → length cs < MOST-EVENTS → Promise text (areas ts ls cs) (areas ts ls cs) 7 0
+  chain-short f g h = too-short text (areas ts ls cs) (rw (le-leb MOST-EVENTS (length ts) f, le-leb MOST-RECORDS (length ls) g, lt-leb MOST-EVENTS (length cs) h))
+
+  module _ (f : MOST-EVENTS ≤ length ts) (g : MOST-RECORDS ≤ length ls) (h : MOST-EVENTS ≤ length cs) where
+    all-heard : heard (areas ts ls cs) text ≡ read text
+    all-heard = rw (le-leb MOST-EVENTS (length ts) f, le-leb MOST-RECORDS (length ls) g, le-leb MOST-EVENTS (length cs) h)
+
+    pub refused-promise : {k line : ℕ} → read text ≡ refused k line → Promise text (areas ts ls cs) (areas ts ls cs) k line
+    refused-promise {k} {line} e = record { outcome = O.refusal k line; right = rw (all-heard, e) (refl, refl); numbered = refl; placed = refl; writes = refl }
+
+    pub settled-promise : {p : M.Plan} {after : Areas} {r : Outcome} → read text ≡ plan p → Settled p (areas ts ls cs) after r → Promise text (areas ts ls cs) after (numberOf r) (placeOf r)
+    settled-promise e s = record { outcome = s .outcome; right = rw (all-heard, e) (s .right); numbered = s .numbered; placed = s .placed; writes = s .writes }
+
+-- ---- what the reader leaves
+
+verdict-plan : (r : Reading) → verdictOf r ≡ Taken → r ≡ plan (planIn r)
+verdict-plan (plan p) e = refl
+verdict-plan (refused k line) e = absurd (let z : _≡_ {A = ℕ} 0 1 = cc in omega arith)
+
+verdict-refused : (r : Reading) {k line : ℕ} → verdictOf r ≡ Refused k line → r ≡ refused k line
+verdict-refused (plan p) e = absurd (let z : _≡_ {A = ℕ} 0 1 = cc in omega arith)
+verdict-refused (refused m l) e = cc
+
+module _ {text before after : List ℕ} {a : Answer} (r : Read text before after a) (l : length before ≡ MOST-LEVELS-TOGETHER) where
+  read-heard : H.heard before text ≡ read text
+  read-heard = ap (λ b. cond b (read text) (refused 7 0)) (le-leb MOST-LEVELS-TOGETHER (length before) (omega arith))
+
+  pub read-refused : {k line : ℕ} → a .verdict ≡ Refused k line → read text ≡ refused k line
+  read-refused e = sym read-heard ∙ verdict-refused (H.heard before text) (sym (r .verdict) ∙ e)
+
+  pub read-taken : a .verdict ≡ Taken → read text ≡ plan (planIn (read text))
+  read-taken e = verdict-plan (read text) (ap verdictOf (sym read-heard) ∙ sym (r .verdict) ∙ e)
+
+  pub read-memory : a .verdict ≡ Taken → InMemory (planIn (read text)) (a .plan) after
+  read-memory e =
+      let v : LevelsHeld (planIn (H.heard before text)) before after = r .levels (omega arith) in
+      record {
+        holds = rw read-heard at (r .held);
+        faultless = read-faultless text (read-taken e);
+        room = omega (arith, v .long);
+        levels = rw read-heard at (v .done);
+      }

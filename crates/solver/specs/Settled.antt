@@ -1,0 +1,49 @@
+-- The outcome as document 01 numbers it, and the outcome of a plan in memory.
+use mathlib.Core.Path.{_≡_}
+use mathlib.Core.List.{List}
+use Prim.Native.Nat.{ℕ, _≤_, _<_}
+use lib.ListN.{length, getD}
+use lib.IntN.{ℤ}
+use Rattle.meaning.specs.Plan as M
+use Rattle.meaning.specs.Plan.{MOST-EVENTS, MOST-RECORDS, MOST-LEVELS-TOGETHER}
+use Rattle.meaning.specs.Reading.{plan}
+use Rattle.meaning.specs.Outcome as O
+use Rattle.meaning.specs.Outcome.{Areas, Right, number, place, written}
+use Rattle.meaning.proofs.Faultless.{WithoutFault}
+use Rattle.plan.specs.declared.Plan.{Plan}
+use Rattle.plan.specs.Held.{Holds, flat}
+use Rattle.solver.specs.declared.Outcome.{Outcome}
+use Rattle.solver.specs.declared.Outcome.the-variants.{Solved, NoTimetable, Refused}
+
+-- the number and the place of section 3
+abbrev pub numberOf : Outcome → ℕ
+numberOf (Solved w) = 0
+numberOf (NoTimetable steps) = 1
+numberOf (Refused k line) = k
+
+abbrev pub placeOf : Outcome → ℕ
+placeOf (Solved w) = w
+placeOf (NoTimetable steps) = steps
+placeOf (Refused k line) = line
+
+-- a plan without fault in memory
+pub record InMemory (p : M.Plan) (h : Plan) (held : List ℕ) : Type 0 where
+  pub holds : Holds p h
+  pub faultless : WithoutFault p
+  pub room : MOST-LEVELS-TOGETHER ≤ length held
+  pub levels : (i : ℕ) → i < MOST-LEVELS-TOGETHER → getD held i 0 ≡ getD (flat (p .records)) i 0
+
+pub record Settling (h : Plan) (held : List ℕ) (times : List ℤ) (levels chain : List ℕ) : Type 0 where
+  pub plan : M.Plan
+  pub memory : InMemory plan h held
+  pub times-long : MOST-EVENTS ≤ length times
+  pub levels-long : MOST-RECORDS ≤ length levels
+  pub chain-long : MOST-EVENTS ≤ length chain
+
+-- an outcome that is right for the plan, and what it writes
+pub record Settled (p : M.Plan) (before after : Areas) (r : Outcome) : Type 0 where
+  pub outcome : O.Outcome
+  pub right : Right (plan p) outcome
+  pub numbered : numberOf r ≡ number outcome
+  pub placed : placeOf r ≡ place outcome
+  pub writes : after ≡ written outcome before
