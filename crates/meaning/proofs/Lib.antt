@@ -14,6 +14,7 @@ pub mod Wishes
 -- a text's reading
 pub mod Faultless
 pub mod ReadGood
+pub mod Refusals
 -- the known plans
 pub mod EveryRow
 pub mod ChainTest

@@ -1,15 +1,16 @@
 -- The answer of the reader from what its parts answer.
 use mathlib.Core.Path.{_≡_, refl, sym, ap, _∙_}
+use mathlib.Core.Bool.{Bool, true, false}
 use mathlib.Core.List.{List}
 use Prim.Native.Nat.{ℕ, _≤_, _<_}
 use native.Mathlib.Omega.{arith}
-use borrow.Author.Tests.{lt-ltb, le-ltb, le-leb, lt-leb}
+use borrow.Author.Tests.{lt-ltb, le-ltb, le-leb, lt-leb, leb-true}
+use lib.Dec.{leb}
 use lib.ListN.{length, getD}
 use Rattle.meaning.specs.Plan as M
 use Rattle.meaning.specs.Reading as R
 use Rattle.meaning.specs.Reading.{Reading, plan, refused, empty}
 use Rattle.plan.specs.declared.Answer.{Answer}
-use Rattle.plan.specs.declared.Verdict.{Verdict}
 use Rattle.plan.specs.declared.Verdict.the-variants.{Taken, Refused}
 use Rattle.plan.specs.Held.{Holds, LevelsHeld, Read, heard, verdictOf, planIn}
 use Rattle.plan.proofs.Steps.{lines}
@@ -53,3 +54,34 @@ module _ (text before after : List ℕ) (r : Answer) where
   read-as x h e v o l =
       let known : heard before text ≡ x = rw (le-leb 8192 (length before) h) e in
       record { verdict = rw known v; held = rw known o; short = λ s. absurd (omega arith); levels = λ _. rw known l }
+
+-- ---- what an answer says to those who use it
+
+pub record Found (text before after : List ℕ) (r : Answer) : Type 0 where
+  pub p : M.Plan
+  pub reads : R.read text ≡ plan p
+  pub long : 8192 ≤ length before
+  pub holds : Holds p (r .plan)
+  pub held : LevelsHeld p before after
+
+module _ (text before after : List ℕ) (r : Answer) (s : Read text before after r) where
+  -- a verdict `Taken`: the text is a plan, and memory holds it
+  pub found : r .verdict ≡ Taken → Found text before after r
+  found e = go (leb 8192 (length before)) refl
+    where
+      go : (t : Bool) → leb 8192 (length before) ≡ t → Found text before after r
+      go true l =
+          let long = leb-true 8192 (length before) l in
+          let known : heard before text ≡ R.read text = rw l in
+          let f = taken-plan (R.read text) (sym e ∙ s .verdict ∙ ap verdictOf known) in
+          let is : heard before text ≡ plan (f .0) = known ∙ f .1 in
+          record { p = f .0; reads = f .1; long = long; holds = rw is at (s .held); held = rw is at (s .levels long) }
+      go false l =
+          let short : heard before text ≡ refused 7 0 = rw l in
+          let no : Taken ≡ Refused 7 0 = sym e ∙ s .verdict ∙ ap verdictOf short in
+          let z : _≡_ {A = ℕ} 0 1 = cc in
+          absurd (omega arith)
+
+  -- a refusal: the area is too short, or the text's reading is that refusal
+  pub refused-so : (k line : ℕ) → r .verdict ≡ Refused k line → heard before text ≡ refused k line
+  refused-so k line e = refused-is (heard before text) k line (sym e ∙ s .verdict)

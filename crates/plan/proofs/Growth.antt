@@ -1,5 +1,5 @@
 -- A plan in memory with one record more: its row stands after the others, its levels stand after theirs.
-use mathlib.Core.Path.{_≡_, refl, sym, ap, ap₂, _∙_}
+use mathlib.Core.Path.{_≡_, refl, sym, ap, _∙_}
 use mathlib.Core.List.{List, [], _∷_, _++_, append-assoc, append-nil}
 use Prim.Native.Nat.{ℕ, suc, _+_, _≤_, _<_}
 use native.Mathlib.Omega.{arith}
@@ -66,6 +66,3 @@ module _ (p : M.Plan) (m : M.Record) where
 -- `rs` is the row of 256 blank records
 pub holds-empty : (rs : List Record) → rs ≡ replicate 256 blank → length rs ≡ 256 → Holds empty (record { events = 0; horizon = 0; count = 0; used = 0; records = rs })
 holds-empty rs e n = record { events = refl; horizon = refl; count = refl; used = refl; size = n; rows = λ k. ap (λ (l : List Record). getD l k blank) e ∙ all-same blank 256 k }
-
-pub held-empty : (before after : List ℕ) → LevelsHeld empty before after → LevelsHeld empty after after
-held-empty before after o = record { long = refl; done = o .done; rest = λ i _. refl }

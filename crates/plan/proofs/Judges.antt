@@ -1,6 +1,6 @@
 -- The faults of a line in their order: what the tests made so far say of `lineStep`.
-use mathlib.Core.Path.{_≡_, refl, sym, ap, _∙_}
-use mathlib.Core.Bool.{Bool, true, false, cond, _&&_, not}
+use mathlib.Core.Path.{_≡_, refl}
+use mathlib.Core.Bool.{Bool, true, false, cond, _&&_}
 use mathlib.Core.List.{List, [], map}
 use Prim.Native.Nat.{ℕ, _+_, _≤_, _<_}
 use native.Mathlib.Omega.{arith}
@@ -11,7 +11,7 @@ use lib.IntN.{ℤ, pos, natAbs}
 use lib.Signed.{leZ}
 use Rattle.meaning.specs.Plan as M
 use Rattle.meaning.specs.Peak.{peaked}
-use Rattle.meaning.specs.Reading.{item, Form, eventsLine, ruleLine, wishLine, wrong, eventsForm, ruleForm, wishForm, Step, taken, fault, unless, lineStep, firstLine, laterLine, withRecord, between, isEvent, isEnd, inRange, sameEvent, lastOf, allLevels, levelsTogether}
+use Rattle.meaning.specs.Reading.{item, Form, eventsLine, ruleLine, wishLine, wrong, eventsForm, ruleForm, wishForm, taken, fault, lineStep, firstLine, laterLine, withRecord, between, isEvent, isEnd, inRange, sameEvent, lastOf, allLevels, levelsTogether}
 use Rattle.text.specs.declared.Word.{Word}
 use Rattle.plan.specs.declared.Fields.{Fields}
 use Rattle.plan.specs.declared.Line.{Line}
@@ -132,19 +132,6 @@ module _ (p : M.Plan) (a b lo hi : ℤ) where
 -- ---- the tests of `wish`
 abbrev pub room : M.Plan → ℕ → Bool
 room p n = ltb (length (p .records)) 256 && leb n 256 && leb (levelsTogether (p .records) + n) 8192
-
-module _ (p : M.Plan) (n : ℕ) where
-  pub room-k : 256 ≤ length (p .records) → room p n ≡ false
-  room-k h = rw (le-ltb (length (p .records)) 256 h)
-
-  pub room-n : length (p .records) < 256 → 256 < n → room p n ≡ false
-  room-n h k = rw (lt-ltb (length (p .records)) 256 h, lt-leb n 256 k)
-
-  pub room-u : length (p .records) < 256 → n ≤ 256 → 8192 < levelsTogether (p .records) + n → room p n ≡ false
-  room-u h k l = rw (lt-ltb (length (p .records)) 256 h, le-leb n 256 k, lt-leb (levelsTogether (p .records) + n) 8192 l)
-
-  pub room-yes : length (p .records) < 256 → n ≤ 256 → levelsTogether (p .records) + n ≤ 8192 → room p n ≡ true
-  room-yes h k l = rw (lt-ltb (length (p .records)) 256 h, le-leb n 256 k, le-leb (levelsTogether (p .records) + n) 8192 l)
 
 module _ (p : M.Plan) (a b lo : ℤ) (ls : List ℤ) where
   pub lw-3 : room p (length ls) ≡ false → laterLine p (wishLine a b lo ls) ≡ fault 3

@@ -1,6 +1,6 @@
 -- A row in memory that shows a list, and past the list's end one value over and over: what is stored right after the list's end
 -- makes the list longer. `P` says at which places the row is looked at.
-use mathlib.Core.Path.{_≡_, refl, sym, ap, _∙_}
+use mathlib.Core.Path.{_≡_, refl, sym, _∙_}
 use mathlib.Core.Bool.{Bool, true, false}
 use mathlib.Core.List.{List, [], _∷_, _++_, append-nil, append-assoc}
 use Prim.Native.Nat.{ℕ, zero, suc, _+_, _≤_, _<_}

@@ -5,21 +5,21 @@ use mathlib.Core.List.{List, []}
 use Prim.Native.Nat.{ℕ, _+_, _≤_, _<_}
 use native.Mathlib.Omega.{arith}
 use lib.ListN.{length, getD, set}
-use lib.Seq.{slice, sets, take-length}
+use lib.Seq.{slice, take-length}
 use lib.IntN.{ℤ}
 use Rattle.text.specs.Bytes.{until, after}
 use Rattle.text.specs.Words.{wordOf}
 use Rattle.text.specs.declared.Word.{Word}
 use Rattle.text.proofs.Cuts.{cut-in}
 use Rattle.meaning.specs.Plan as M
-use Rattle.meaning.specs.Reading.{TAB, LINE-FEED, Form, wrong, numbers, split, readPieces, afterStep, lineForm, lineStep, formOf, Reading, plan, refused, empty, withRecord, levelsTogether, fault, taken}
+use Rattle.meaning.specs.Reading.{TAB, LINE-FEED, numbers, split, readPieces, afterStep, lineStep, formOf, Reading, plan, refused, empty, withRecord}
 use Rattle.plan.specs.declared.Plan.{Plan}
 use Rattle.plan.specs.declared.Record.{Record}
 use Rattle.plan.specs.declared.Verdict.the-variants.{Taken, Refused}
-use Rattle.plan.specs.Held.{levelsIn, rowOf, Holds, LevelsHeld, verdictOf}
+use Rattle.plan.specs.Held.{levelsIn, Holds, LevelsHeld, verdictOf}
 use Rattle.plan.specs.Lines.{wordForm, Counts, Faulted, Headed, Entered, Walked}
 use Rattle.plan.proofs.Judges.{step-wrong}
-use Rattle.plan.proofs.Growth.{holds-more, held-more, together-more}
+use Rattle.plan.proofs.Growth.{holds-more, held-more}
 use Rattle.plan.proofs.Walks as W
 
 abbrev pub lines : List ℕ → Reading

@@ -10,7 +10,7 @@ use lib.Seq.{slice, sets}
 use lib.IntN.{ℤ, pos, natAbs}
 use Rattle.meaning.specs.Plan as M
 use Rattle.meaning.specs.Plan.{MOST-EVENTS, MOST-RECORDS, MOST-LEVELS-TOGETHER}
-use Rattle.meaning.specs.Reading.{TAB, item, numbers, allLevels, Form, eventsLine, ruleLine, wishLine, wrong, eventsForm, ruleForm, wishForm, Step, taken, fault, lineStep, withRecord, levelsTogether, LINE-FEED, split, readPieces, plan, empty}
+use Rattle.meaning.specs.Reading.{TAB, item, numbers, allLevels, Form, eventsLine, ruleLine, wishLine, wrong, eventsForm, ruleForm, wishForm, taken, fault, lineStep, withRecord, levelsTogether, LINE-FEED, split, readPieces, plan, empty}
 use Rattle.text.specs.Bytes.{after}
 use Rattle.text.specs.declared.Word.{Word}
 use Rattle.text.specs.declared.Word.the-variants.{Events, Rule, Wish, Other}

@@ -8,6 +8,7 @@ ghost use lib.Seq.{slice};
 ghost use lib.Dec.{T, ltb, leb};
 ghost use lib.IntN.{ℤ, pos, natAbs, _+ℤ_};
 ghost use lib.Signed.{nonNeg};
+ghost use Rattle.meaning.specs.Plan.{MOST-EVENTS, MOST-RECORDS, MOST-LEVELS, MOST-LEVELS-TOGETHER, MOST-BYTES};
 ghost use Rattle.meaning.specs.Peak.{peaked};
 ghost use Rattle.meaning.specs.Reading.{between, isEvent, isEnd, isLevel, inRange, empty};
 ghost use Rattle.plan.specs.declared.Verdict.the-variants.{Refused};
@@ -32,6 +33,10 @@ pub const MOST_BYTES: usize = 60000;
 
 pub const TOP_LEVEL: i32 = 15;
 
+const TAB: u8 = 9;
+
+const LINE_FEED: u8 = 10;
+
 // A rule (count 0), or a wish, whose levels are the count ones from first on in the area of all levels.
 pub struct Record {
     pub a: u8,
@@ -48,7 +53,7 @@ pub struct Plan {
     pub horizon: u32,
     pub count: usize,
     pub used: usize,
-    pub records: [Record; 256],
+    pub records: [Record; MOST_RECORDS],
 }
 
 pub enum Verdict {
@@ -70,7 +75,7 @@ fn is_between(lo: i32, hi: i32, v: i32) -> bool
 
 // v is one of the events 0 to n - 1.
 fn is_event(n: usize, v: i32) -> bool
-    requires { ⌜ n ≤ 64 ⌝ }
+    requires { ⌜ n ≤ MOST-EVENTS ⌝ }
     ensures { λ r. ⌜ r ≡ isEvent n v ⌝ }
 {
     if 0 <= v { v < (n as i32) } else { false }
@@ -84,7 +89,7 @@ fn is_end(v: i32) -> bool
 
 // The two events and the two ends of a record.
 fn in_range(n: usize, a: i32, b: i32, lo: i32, hi: i32) -> bool
-    requires { ⌜ n ≤ 64 ⌝ }
+    requires { ⌜ n ≤ MOST-EVENTS ⌝ }
     ensures { λ r. ⌜ r ≡ inRange n a b lo hi ⌝ }
 {
     if !is_event(n, a) {
@@ -109,7 +114,7 @@ fn size_of(v: i32) -> usize
 
 // The distance of the last of n levels.
 fn last_of(lo: i32, n: usize) -> i32
-    requires { ⌜ (isEnd lo ≡ true) × (1 ≤ n) × (n ≤ 256) ⌝ }
+    requires { ⌜ (isEnd lo ≡ true) × (1 ≤ n) × (n ≤ MOST-LEVELS) ⌝ }
     ensures { λ r. ⌜ r ≡ lo +ℤ pos (n - 1) ⌝ }
 {
     lo + ((n - 1) as i32)
@@ -117,7 +122,7 @@ fn last_of(lo: i32, n: usize) -> i32
 
 // The area of levels as for a plan without wishes.
 fn clear(levels: &mut [u8])
-    requires { ⌜ 8192 ≤ length (now levels) ⌝ }
+    requires { ⌜ MOST-LEVELS-TOGETHER ≤ length (now levels) ⌝ }
     ensures { λ r. ⌜ LevelsHeld empty (now (levels .entry)) (now (levels .exit)) ⌝ }
 {
     let mut i = 0;
@@ -190,13 +195,13 @@ fn level_of(v: i32) -> u8
 
 // The numbers from `from` on, stored as levels from place `used` on; false where one is no level.
 fn read_levels(text: &[u8], from: usize, end: usize, levels: &mut [u8], used: usize) -> bool
-    requires { ⌜ Fielded (now text) from end × (used + length (restOf (slice from end (now text))) ≤ 8192) × (8192 ≤ length (now levels)) ⌝ }
+    requires { ⌜ Fielded (now text) from end × (used + length (restOf (slice from end (now text))) ≤ MOST-LEVELS-TOGETHER) × (MOST-LEVELS-TOGETHER ≤ length (now levels)) ⌝ }
     ensures { λ r. ⌜ LevelsRead (restOf (slice from end (now (text .entry)))) used (now (levels .entry)) (now (levels .exit)) r ⌝ }
 {
     let mut p = from;
     let mut k = used;
     while p < end {
-        let next = text::find(text, p + 1, end, 9);
+        let next = text::find(text, p + 1, end, TAB);
         match text::read_number(text, p + 1, next) {
             Number::Value(v) => {
                 if !is_between(0, TOP_LEVEL, v) {
@@ -219,9 +224,9 @@ fn after_three(text: &[u8], first: usize, end: usize) -> usize
     requires { ⌜ Fielded (now text) first end × (3 ≤ length (restOf (slice first end (now text)))) ⌝ }
     ensures { λ r. ⌜ AfterThree (now (text .entry)) first end r ⌝ }
 {
-    let p = text::find(text, first + 1, end, 9);
-    let q = text::find(text, p + 1, end, 9);
-    text::find(text, q + 1, end, 9)
+    let p = text::find(text, first + 1, end, TAB);
+    let q = text::find(text, p + 1, end, TAB);
+    text::find(text, q + 1, end, TAB)
 }
 
 // What a line gives: a fault, the number of events and the horizon, or one record more.
@@ -233,7 +238,7 @@ pub enum Line {
 
 // A record from the numbers of its line.
 fn row_of(n: usize, a: i32, b: i32, first: usize, count: usize, lo: i32, hi: i32) -> Record
-    requires { ⌜ (inRange n a b lo hi ≡ true) × (n ≤ 64) × (first ≤ 8192) × (count ≤ 256) ⌝ }
+    requires { ⌜ (inRange n a b lo hi ≡ true) × (n ≤ MOST-EVENTS) × (first ≤ MOST-LEVELS-TOGETHER) × (count ≤ MOST-LEVELS) ⌝ }
     ensures { λ r. ⌜ r ≡ asRow a b first count lo hi ⌝ }
 {
     Record {
@@ -271,7 +276,7 @@ fn take_events(line: usize, f: Fields) -> Line
 
 // A line `rule`, after `count` records with `used` levels together.
 fn take_rule(line: usize, f: Fields, n: usize, count: usize, used: usize) -> Line
-    requires { ⌜ (length (f .first) ≡ 4) × (n ≤ 64) × (used ≤ 8192) ⌝ }
+    requires { ⌜ (length (f .first) ≡ 4) × (n ≤ MOST-EVENTS) × (used ≤ MOST-LEVELS-TOGETHER) ⌝ }
     ensures { λ r. ⌜ ((levels : List ℕ) → Says line (ruleFields f) n count used levels levels r) ⌝ }
 {
     if line == 1 {
@@ -302,8 +307,8 @@ fn take_rule(line: usize, f: Fields, n: usize, count: usize, used: usize) -> Lin
 
 // One wish more, with m levels, is within the limits of their numbers.
 fn has_room(count: usize, used: usize, m: usize) -> bool
-    requires { ⌜ used ≤ 8192 ⌝ }
-    ensures { λ r. ⌜ r ≡ (ltb count 256 && leb m 256 && leb (used + m) 8192) ⌝ }
+    requires { ⌜ used ≤ MOST-LEVELS-TOGETHER ⌝ }
+    ensures { λ r. ⌜ r ≡ (ltb count MOST-RECORDS && leb m MOST-LEVELS && leb (used + m) MOST-LEVELS-TOGETHER) ⌝ }
 {
     if MOST_RECORDS <= count {
         return false;
@@ -326,7 +331,7 @@ fn take_wish(
     end: usize,
     levels: &mut [u8],
 ) -> Line
-    requires { ⌜ Fielded (now text) first end × Numbers (restOf (slice first end (now text))) f × (n ≤ 64) × (used ≤ 8192) × (8192 ≤ length (now levels)) ⌝ }
+    requires { ⌜ Fielded (now text) first end × Numbers (restOf (slice first end (now text))) f × (n ≤ MOST-EVENTS) × (used ≤ MOST-LEVELS-TOGETHER) × (MOST-LEVELS-TOGETHER ≤ length (now levels)) ⌝ }
     ensures { λ r. ⌜ Says line (wishFields f (restOf (slice first end (now (text .entry))))) n count used (now (levels .entry)) (now (levels .exit)) r ⌝ }
 {
     if line == 1 {
@@ -376,7 +381,7 @@ fn take_line(
     end: usize,
     levels: &mut [u8],
 ) -> Line
-    requires { ⌜ Fielded (now text) first end × Numbers (restOf (slice first end (now text))) f × (n ≤ 64) × (used ≤ 8192) × (8192 ≤ length (now levels)) ⌝ }
+    requires { ⌜ Fielded (now text) first end × Numbers (restOf (slice first end (now text))) f × (n ≤ MOST-EVENTS) × (used ≤ MOST-LEVELS-TOGETHER) × (MOST-LEVELS-TOGETHER ≤ length (now levels)) ⌝ }
     ensures { λ r. ⌜ Says line (wordForm word (restOf (slice first end (now (text .entry))))) n count used (now (levels .entry)) (now (levels .exit)) r ⌝ }
 {
     match word {
@@ -403,13 +408,13 @@ fn empty_plan() -> Plan
         horizon: 0,
         count: 0,
         used: 0,
-        records: [blank; 256],
+        records: [blank; MOST_RECORDS],
     }
 }
 
 // The lines of a text from the top, and in each line its fields, up to the first fault.
 fn read_lines(text: &[u8], levels: &mut [u8]) -> Answer
-    requires { ⌜ (length (now text) ≤ 60000) × (8192 ≤ length (now levels)) × LevelsHeld empty (now levels) (now levels) ⌝ }
+    requires { ⌜ (length (now text) ≤ MOST-BYTES) × (MOST-LEVELS-TOGETHER ≤ length (now levels)) × LevelsHeld empty (now levels) (now levels) ⌝ }
     ensures { λ r. ⌜ Walked (now (text .entry)) (now (levels .entry)) (now (levels .exit)) r ⌝ }
 {
     let mut plan = empty_plan();
@@ -418,12 +423,12 @@ fn read_lines(text: &[u8], levels: &mut [u8]) -> Answer
     let mut line: usize = 1;
     let mut at: usize = 0;
     'lines: while at < len {
-        let end = text::find(text, at, len, 10);
+        let end = text::find(text, at, len, LINE_FEED);
         if end == len {
             fault = 2;
             break 'lines;
         }
-        let first = text::find(text, at, end, 9);
+        let first = text::find(text, at, end, TAB);
         let word = text::read_word(text, at, first);
         let mut f = Fields {
             count: 0,
@@ -431,7 +436,7 @@ fn read_lines(text: &[u8], levels: &mut [u8]) -> Answer
         };
         let mut p = first;
         while p < end {
-            let next = text::find(text, p + 1, end, 9);
+            let next = text::find(text, p + 1, end, TAB);
             match text::read_number(text, p + 1, next) {
                 Number::Value(v) => {
                     f = with_number(f, v);

@@ -2,7 +2,7 @@
 use mathlib.Core.Path.{_≡_, refl, sym, ap, _∙_}
 use mathlib.Core.Bool.{Bool, true, false, cond, _&&_}
 use mathlib.Core.List.{List}
-use Prim.Native.Nat.{ℕ, _+_, _*_, _-_, _≤_, _<_}
+use Prim.Native.Nat.{ℕ, zero, suc, _+_, _*_, _-_, _≤_, _<_}
 use native.Mathlib.Omega.{arith}
 use lib.Dec.{leb}
 use lib.ListN.{length}
@@ -13,10 +13,11 @@ use Rattle.meaning.specs.Plan.{MOST-EVENTS, MOST-RECORDS, MOST-LEVELS-TOGETHER}
 use Rattle.meaning.specs.Reading.{Reading, plan, refused, read}
 use Rattle.meaning.specs.Distances.{earliest}
 use Rattle.meaning.specs.Outcome as O
-use Rattle.meaning.specs.Outcome.{Areas, areas, longEnough, heard, written, Promise}
+use Rattle.meaning.specs.Outcome.{Areas, areas, longEnough, heard}
 use Rattle.meaning.proofs.Faultless.{WithoutFault}
 use Rattle.meaning.proofs.Levels.{levels-count}
 use Rattle.meaning.proofs.ReadGood.{read-faultless}
+use Rattle.meaning.proofs.Refusals.{refused-number}
 use Rattle.meaning.proofs.Solve.{earliest-solved}
 use Rattle.plan.specs.declared.Plan.{Plan}
 use Rattle.plan.specs.declared.Answer.{Answer}
@@ -32,7 +33,7 @@ use Rattle.chain.specs.Clash.{listed, Broken, Found}
 use Rattle.solver.specs.Listed.{Listed}
 use Rattle.solver.specs.Tried.{Trying, Tried}
 use Rattle.solver.specs.Climbed.{Ready, Climbed}
-use Rattle.solver.specs.Settled.{numberOf, placeOf, InMemory, Settled}
+use Rattle.solver.specs.Settled.{named, InMemory, Settled, Solves}
 use Rattle.solver.specs.declared.Outcome.{Outcome}
 use Rattle.solver.specs.declared.Outcome.the-variants as Out
 use Rattle.solver.proofs.Ends.{Chained, start-net, start-trying, all-stands, clash-broken, found-chained}
@@ -83,6 +84,7 @@ chained-settled ts ls c = record {
   right = c .chain;
   numbered = refl;
   placed = c .counted;
+  variant = refl;
   writes = ap (λ l. areas ts ls l) (c .written);
 }
 
@@ -102,33 +104,47 @@ module _ {p : M.Plan} {d : List ℤ} {before after : List ℕ} {r : ℕ} (w : Wi
         right = s;
         numbered = refl;
         placed = c .count ∙ sym (levels-count p (O.at (k .front))) ∙ sym (ap length (s .levelled));
+        variant = refl;
         writes = λ i. areas (k .over-old i) (c .written i) chain;
       }
 
 -- ---- the promise
 
-too-short : (text : List ℕ) (a : Areas) → longEnough a ≡ false → Promise text a a 7 0
-too-short text a e = record { outcome = O.refusal 7 0; right = rw e (refl, refl); numbered = refl; placed = refl; writes = refl }
+-- 7 for an area too short
+too-short : (text : List ℕ) (a : Areas) → longEnough a ≡ false → Solves text a a (Out.Refused 7 0)
+too-short text a e = record { promise = record { outcome = O.refusal 7 0; right = rw e (refl, refl); numbered = refl; placed = refl; writes = refl }; variant = refl }
+
+-- a refusal is named by its number
+refusal-named : (k line : ℕ) → 2 ≤ k → Out.Refused k line ≡ named k line
+refusal-named zero line h = absurd (omega arith)
+refusal-named (suc zero) line h = absurd (omega arith)
+refusal-named (suc (suc k)) line h = refl
 
 module _ (text : List ℕ) (ts : List ℤ) (ls cs : List ℕ) where
-  pub times-short : length ts < MOST-EVENTS → Promise text (areas ts ls cs) (areas ts ls cs) 7 0
+  pub times-short : length ts < MOST-EVENTS → Solves text (areas ts ls cs) (areas ts ls cs) (Out.Refused 7 0)
   times-short h = too-short text (areas ts ls cs) (rw (lt-leb MOST-EVENTS (length ts) h))
 
-  pub levels-short : MOST-EVENTS ≤ length ts → length ls < MOST-RECORDS → Promise text (areas ts ls cs) (areas ts ls cs) 7 0
+  pub levels-short : MOST-EVENTS ≤ length ts → length ls < MOST-RECORDS → Solves text (areas ts ls cs) (areas ts ls cs) (Out.Refused 7 0)
   levels-short g h = too-short text (areas ts ls cs) (rw (le-leb MOST-EVENTS (length ts) g, lt-leb MOST-RECORDS (length ls) h))
 
-  pub chain-short : MOST-EVENTS ≤ length ts → MOST-RECORDS ≤ length ls → length cs < MOST-EVENTS → Promise text (areas ts ls cs) (areas ts ls cs) 7 0
+  pub chain-short : MOST-EVENTS ≤ length ts → MOST-RECORDS ≤ length ls → length cs < MOST-EVENTS → Solves text (areas ts ls cs) (areas ts ls cs) (Out.Refused 7 0)
   chain-short f g h = too-short text (areas ts ls cs) (rw (le-leb MOST-EVENTS (length ts) f, le-leb MOST-RECORDS (length ls) g, lt-leb MOST-EVENTS (length cs) h))
 
   module _ (f : MOST-EVENTS ≤ length ts) (g : MOST-RECORDS ≤ length ls) (h : MOST-EVENTS ≤ length cs) where
     all-heard : heard (areas ts ls cs) text ≡ read text
     all-heard = rw (le-leb MOST-EVENTS (length ts) f, le-leb MOST-RECORDS (length ls) g, le-leb MOST-EVENTS (length cs) h)
 
-    pub refused-promise : {k line : ℕ} → read text ≡ refused k line → Promise text (areas ts ls cs) (areas ts ls cs) k line
-    refused-promise {k} {line} e = record { outcome = O.refusal k line; right = rw (all-heard, e) (refl, refl); numbered = refl; placed = refl; writes = refl }
+    pub refused-solves : {k line : ℕ} → read text ≡ refused k line → Solves text (areas ts ls cs) (areas ts ls cs) (Out.Refused k line)
+    refused-solves {k} {line} e = record {
+      promise = record { outcome = O.refusal k line; right = rw (all-heard, e) (refl, refl); numbered = refl; placed = refl; writes = refl };
+      variant = refusal-named k line (refused-number text e .low);
+    }
 
-    pub settled-promise : {p : M.Plan} {after : Areas} {r : Outcome} → read text ≡ plan p → Settled p (areas ts ls cs) after r → Promise text (areas ts ls cs) after (numberOf r) (placeOf r)
-    settled-promise e s = record { outcome = s .outcome; right = rw (all-heard, e) (s .right); numbered = s .numbered; placed = s .placed; writes = s .writes }
+    pub settled-solves : {p : M.Plan} {after : Areas} {r : Outcome} → read text ≡ plan p → Settled p (areas ts ls cs) after r → Solves text (areas ts ls cs) after r
+    settled-solves e s = record {
+      promise = record { outcome = s .outcome; right = rw (all-heard, e) (s .right); numbered = s .numbered; placed = s .placed; writes = s .writes };
+      variant = s .variant;
+    }
 
 -- ---- what the reader leaves
 

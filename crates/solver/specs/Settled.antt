@@ -1,14 +1,14 @@
 -- The outcome as document 01 numbers it, and the outcome of a plan in memory.
 use mathlib.Core.Path.{_≡_}
 use mathlib.Core.List.{List}
-use Prim.Native.Nat.{ℕ, _≤_, _<_}
+use Prim.Native.Nat.{ℕ, zero, suc, _≤_, _<_}
 use lib.ListN.{length, getD}
 use lib.IntN.{ℤ}
 use Rattle.meaning.specs.Plan as M
 use Rattle.meaning.specs.Plan.{MOST-EVENTS, MOST-RECORDS, MOST-LEVELS-TOGETHER}
 use Rattle.meaning.specs.Reading.{plan}
 use Rattle.meaning.specs.Outcome as O
-use Rattle.meaning.specs.Outcome.{Areas, Right, number, place, written}
+use Rattle.meaning.specs.Outcome.{Areas, Right, number, place, written, Promise}
 use Rattle.meaning.proofs.Faultless.{WithoutFault}
 use Rattle.plan.specs.declared.Plan.{Plan}
 use Rattle.plan.specs.Held.{Holds, flat}
@@ -25,6 +25,12 @@ abbrev pub placeOf : Outcome → ℕ
 placeOf (Solved w) = w
 placeOf (NoTimetable steps) = steps
 placeOf (Refused k line) = line
+
+-- the outcome that a number and a place name
+abbrev pub named : ℕ → ℕ → Outcome
+named zero w = Solved w
+named (suc zero) steps = NoTimetable steps
+named (suc (suc k)) line = Refused (suc (suc k)) line
 
 -- a plan without fault in memory
 pub record InMemory (p : M.Plan) (h : Plan) (held : List ℕ) : Type 0 where
@@ -46,4 +52,10 @@ pub record Settled (p : M.Plan) (before after : Areas) (r : Outcome) : Type 0 wh
   pub right : Right (plan p) outcome
   pub numbered : numberOf r ≡ number outcome
   pub placed : placeOf r ≡ place outcome
+  pub variant : r ≡ named (numberOf r) (placeOf r)
   pub writes : after ≡ written outcome before
+
+-- ---- what the entry point promises: the promise of `meaning`, and that the outcome is the one that its number names
+pub record Solves (text : List ℕ) (before after : Areas) (r : Outcome) : Type 0 where
+  pub promise : Promise text before after (numberOf r) (placeOf r)
+  pub variant : r ≡ named (numberOf r) (placeOf r)

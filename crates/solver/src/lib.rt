@@ -19,7 +19,7 @@ ghost use Rattle.solver.specs.Entries.{upperEntry, lowerEntry, Front, Ap
 ghost use Rattle.solver.specs.Tried.{Trying, Tried};
 ghost use Rattle.solver.specs.Climbed.{Ready, Climbed};
 ghost use Rattle.solver.specs.Climbing.{Span, RunFirst, RunPast, Reach, Asking, Asked, WishClimbed, RecordAsking, RecordClimbed, Grading, Graded, RecordCleared, GradesCleared, ToClimb};
-ghost use Rattle.solver.specs.Settled.{numberOf, placeOf, InMemory, Settling, Settled};
+ghost use Rattle.solver.specs.Settled.{numberOf, placeOf, InMemory, Settling, Settled, Solves};
 use chain::Bound;
 use chain::MOST_BOUNDS;
 use plan::Plan;
@@ -369,8 +369,8 @@ fn settle(h: Plan, held: &[u8], times: &mut [i64], levels: &mut [u8], chain: &mu
 
 // The least times of a best timetable of the plan text, and its levels; or the chain of bounds that leave no timetable; or why the text or an area is refused.
 pub fn solve(text: &[u8], times: &mut [i64], levels: &mut [u8], chain: &mut [u16]) -> Outcome
-    ensures { λ r. ⌜ Promise (now (text .entry)) (areas (now (times .entry)) (now (levels .entry)) (now (chain .entry)))
-        (areas (now (times .exit)) (now (levels .exit)) (now (chain .exit))) (numberOf r) (placeOf r) ⌝ }
+    ensures { λ r. ⌜ Solves (now (text .entry)) (areas (now (times .entry)) (now (levels .entry)) (now (chain .entry)))
+        (areas (now (times .exit)) (now (levels .exit)) (now (chain .exit))) r ⌝ }
 {
     if times.len() < MOST_EVENTS {
         return Outcome::Refused(7, 0);
@@ -388,4 +388,41 @@ pub fn solve(text: &[u8], times: &mut [i64], levels: &mut [u8], chain: &mut [u16
         Verdict::Taken => settle(answer.plan, &held, times, levels, chain),
         Verdict::Refused(number, line) => Outcome::Refused(number, line),
     }
+}
+
+fn number_of(outcome: Outcome) -> u8
+    ensures { λ r. ⌜ r ≡ numberOf outcome ⌝ }
+{
+    match outcome {
+        Outcome::Solved(_) => 0,
+        Outcome::NoTimetable(_) => 1,
+        Outcome::Refused(number, _) => number,
+    }
+}
+
+fn place_in(outcome: Outcome) -> usize
+    ensures { λ r. ⌜ r ≡ placeOf outcome ⌝ }
+{
+    match outcome {
+        Outcome::Solved(wishes) => wishes,
+        Outcome::NoTimetable(steps) => steps,
+        Outcome::Refused(_, line) => line,
+    }
+}
+
+// The same for C: the number is returned, the place is stored.
+#[no_mangle]
+pub extern "C" fn timetable_solve(
+    text: &[u8],
+    times: &mut [i64],
+    levels: &mut [u8],
+    chain: &mut [u16],
+    place: &mut usize,
+) -> u8
+    ensures { λ r. ⌜ Promise (now (text .entry)) (areas (now (times .entry)) (now (levels .entry)) (now (chain .entry)))
+        (areas (now (times .exit)) (now (levels .exit)) (now (chain .exit))) r (now (place .exit)) ⌝ }
+{
+    let outcome = solve(text, times, levels, chain);
+    *place = place_in(outcome);
+    number_of(outcome)
 }

@@ -12,9 +12,6 @@ use Rattle.plan.proofs.Walks.{rest-inside, rest-next}
 use borrow.Author.Needs.{needs}
 use Rattle.plan.proofs.after_three.Statement.{statement}
 use Rattle.plan.proofs.after_three.Tie as tie
-use Rattle.plan.proofs.after_three.Reads as reads
-use Rattle.plan.proofs.after_three.Lts as lts
-use Rattle.text.proofs.find.Reads as find-reads
 
 -- the place p, from which the numbers but the first n are left
 record Left (s : List ℕ) (f e p n : ℕ) : Type 0 where

@@ -1,13 +1,11 @@
 -- `plan::clear` meets its contract: the places passed are 0, those from the last possible level on are as they were.
 use mathlib.Core.Path.{_≡_, refl, _∙_}
-use Prim.Native.Nat.{ℕ, _+_, _-_, _≤_, _<_}
+use Prim.Native.Nat.{ℕ, _-_, _≤_, _<_}
 use native.Mathlib.Omega.{arith}
 use lib.ListN.{length, getD, length-set}
 use Rattle.plan.proofs.Padded.{kept-above, zero-more}
 use Rattle.plan.proofs.clear.Statement.{statement}
 use Rattle.plan.proofs.clear.Tie as tie
-use Rattle.plan.proofs.clear.Reads as reads
-use Rattle.plan.proofs.clear.Lts as lts
 
 abbrev Inv-loop : tie.InvT-loop
 Inv-loop levels₀ i₀ levels i =

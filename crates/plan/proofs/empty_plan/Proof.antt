@@ -3,8 +3,6 @@ use mathlib.Core.Path.{refl}
 use Rattle.plan.proofs.Growth.{holds-empty}
 use Rattle.plan.proofs.empty_plan.Statement.{statement}
 use Rattle.plan.proofs.empty_plan.Tie as tie
-use Rattle.plan.proofs.empty_plan.Reads as reads
-use Rattle.plan.proofs.empty_plan.Lts as lts
 
 returns : tie.Need-returns
 returns c = holds-empty _ refl refl

@@ -2,8 +2,6 @@
 use borrow.Author.Needs.{needs}
 use Rattle.plan.proofs.has_fallen.Statement.{statement}
 use Rattle.plan.proofs.has_fallen.Tie as tie
-use Rattle.plan.proofs.has_fallen.Reads as reads
-use Rattle.plan.proofs.has_fallen.Lts as lts
 
 returns : tie.Need-returns
 returns c = search needs

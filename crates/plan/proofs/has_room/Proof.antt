@@ -3,8 +3,6 @@ use borrow.Author.Tests.{lt-ltb, le-ltb, le-leb, lt-leb}
 use borrow.Author.Needs.{needs}
 use Rattle.plan.proofs.has_room.Statement.{statement}
 use Rattle.plan.proofs.has_room.Tie as tie
-use Rattle.plan.proofs.has_room.Reads as reads
-use Rattle.plan.proofs.has_room.Lts as lts
 
 returns : tie.Need-returns
 returns c = rw (le-ltb (c .before .args .count) 256 (c .if1 .taken))

@@ -1,6 +1,6 @@
 -- `plan::in_range` meets its contract: the tests in turn.
 use mathlib.Core.Path.{_≡_, sym, _∙_}
-use mathlib.Core.Bool.{true, false}
+use mathlib.Core.Bool.{true}
 use borrow.Author.Tests.{not-true, not-false}
 use mir.Facts.{toZ-ofZ}
 use Rattle.meaning.specs.Reading.{isEvent, isEnd}

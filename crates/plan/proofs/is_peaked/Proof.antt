@@ -1,18 +1,13 @@
 -- `plan::is_peaked` meets its contract: the one pass from here on gives what the whole gives.
-use mathlib.Core.Path.{_≡_, refl, sym, _∙_}
-use Prim.Native.Nat.{ℕ, _+_, _-_, _≤_, _<_}
+use mathlib.Core.Path.{_≡_, sym, _∙_}
+use Prim.Native.Nat.{_-_, _≤_}
 use native.Mathlib.Omega.{arith}
-use lib.ListN.{length, getD}
 use lib.Seq.{slice}
 use Rattle.meaning.specs.Peak.{peaked, peakedFrom}
 use Rattle.plan.proofs.Peaks.{peak-start, peak-up, peak-on, peak-end}
 use borrow.Author.Needs.{needs}
 use Rattle.plan.proofs.is_peaked.Statement.{statement}
 use Rattle.plan.proofs.is_peaked.Tie as tie
-use Rattle.plan.proofs.is_peaked.Reads as reads
-use Rattle.plan.proofs.is_peaked.Lts as lts
-use Rattle.plan.proofs.has_fallen.Reads as has-fallen-reads
-use Rattle.plan.proofs.up_again.Reads as up-again-reads
 
 abbrev Inv-loop : tie.InvT-loop
 Inv-loop levels at end fallen₀ x₀ i₀ fallen x i = (at ≤ i) × (i ≤ end) × (peakedFrom fallen x (slice i end levels) ≡ peaked (slice at end levels))

@@ -1,16 +1,11 @@
 -- `plan::level_of` meets its contract: a level is at most 15.
-use mathlib.Core.Path.{_≡_}
 use native.Mathlib.Omega.{arith}
-use lib.IntN.{pos, natAbs}
-use lib.Dec.{T}
-use lib.Signed.{nonNeg}
+use lib.IntN.{pos}
 use mir.Facts.{toZ-ofZ}
 use Rattle.plan.proofs.Tests.{above, below, sign, small}
 use borrow.Author.Needs.{needs}
 use Rattle.plan.proofs.level_of.Statement.{statement}
 use Rattle.plan.proofs.level_of.Tie as tie
-use Rattle.plan.proofs.level_of.Reads as reads
-use Rattle.plan.proofs.level_of.Lts as lts
 
 cast-result : tie.Need-cast-result
 cast-result c =

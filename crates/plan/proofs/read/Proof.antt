@@ -1,16 +1,11 @@
 -- `plan::read` meets its contract: each way out by what its last calls answer.
-use mathlib.Core.Path.{_≡_, refl, sym, _∙_}
+use mathlib.Core.Path.{refl, sym, _∙_}
 use Rattle.meaning.specs.Reading.{plan, refused}
 use Rattle.plan.proofs.Steps.{lines}
 use Rattle.plan.proofs.Answers.{text-long, text-short, taken-plan, refused-is, held-from, cleared-again, read-short, read-as}
 use borrow.Author.Needs.{needs}
 use Rattle.plan.proofs.read.Statement.{statement}
 use Rattle.plan.proofs.read.Tie as tie
-use Rattle.plan.proofs.read.Reads as reads
-use Rattle.plan.proofs.read.Lts as lts
-use Rattle.plan.proofs.clear.Reads as clear-reads
-use Rattle.plan.proofs.read_lines.Reads as read-lines-reads
-use Rattle.plan.proofs.refusal.Reads as refusal-reads
 
 refusal-requires : tie.Need-refusal-requires
 refusal-requires c κs = search needs

@@ -1,32 +1,25 @@
 -- `plan::read_levels` meets its contract: what is left to read and to store from here gives what the whole gives.
 use mathlib.Core.Path.{_≡_, refl, sym, ap, _∙_}
-use mathlib.Core.Bool.{Bool, true, false}
-use mathlib.Core.Option.{none, some}
+use mathlib.Core.Bool.{true, false}
 use mathlib.Core.List.{List, [], _∷_, map}
-use Prim.Native.Nat.{ℕ, suc, _+_, _-_, _≤_, _<_}
+use Prim.Native.Nat.{ℕ, _+_, _-_, _≤_}
 use native.Mathlib.Omega.{arith}
 use native.Mathlib.Numerals.{add-one}
 use borrow.Author.Needs.{needs}
 use borrow.Author.Tests.{not-true, not-false}
 use lib.ListN.{length, getD, length-set}
 use lib.Seq.{slice, sets}
-use lib.IntN.{natAbs, pos}
+use lib.IntN.{natAbs}
 use mir.Facts.{toZ-ofZ}
 use mir.Syntax.{w32}
 use mir.Val.{SFits}
 use Rattle.text.specs.Answers.{numberAs}
-use Rattle.meaning.specs.Reading.{TAB, numberOf, isLevel, allLevels}
+use Rattle.meaning.specs.Reading.{isLevel, allLevels}
 use Rattle.plan.specs.Lines.{restOf, Fielded}
 use Rattle.plan.proofs.Walks as W
 use Rattle.plan.proofs.Padded.{kept-above}
 use Rattle.plan.proofs.read_levels.Statement.{statement}
 use Rattle.plan.proofs.read_levels.Tie as tie
-use Rattle.plan.proofs.read_levels.Reads as reads
-use Rattle.plan.proofs.read_levels.Lts as lts
-use Rattle.plan.proofs.is_between.Reads as is-between-reads
-use Rattle.plan.proofs.level_of.Reads as level-of-reads
-use Rattle.text.proofs.find.Reads as find-reads
-use Rattle.text.proofs.read_number.Reads as read-number-reads
 
 record Read (text : List ℕ) (from end : ℕ) (levels₀ : List ℕ) (used : ℕ) (levels : List ℕ) (p k : ℕ) : Type 0 where
   fielded : Fielded text p end

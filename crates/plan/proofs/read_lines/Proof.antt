@@ -1,8 +1,8 @@
 -- `plan::read_lines` meets its contract. Before each line `Walking` holds; in a line the numbers seen and those left are all its numbers; each way out is the first fault, or the end of the text.
-use Prim.Native.Nat.{ℕ, suc, _+_, _-_, _≤_, _<_}
+use Prim.Native.Nat.{ℕ, _+_, _-_, _≤_, _<_}
 use mathlib.Core.Path.{_≡_, refl, sym, ap, _∙_}
 use mathlib.Core.Logic.{_⊎_, inl, inr, ⊎-elim}
-use mathlib.Core.Option.{Option, none, some}
+use mathlib.Core.Option.{none, some}
 use mathlib.Core.List.{List, [], _∷_, _++_}
 use native.Mathlib.Omega.{arith}
 use borrow.Author.Needs.{needs}
@@ -18,7 +18,7 @@ use Rattle.meaning.specs.Reading.{TAB, numberOf, numbers, refused}
 use Rattle.plan.specs.declared.Fields.{Fields}
 use Rattle.plan.specs.declared.Record.{Record}
 use Rattle.plan.specs.declared.Line.the-variants.{Fault, Head, Entry}
-use Rattle.plan.specs.Lines.{Numbers, restOf, Fielded, Says, Faulted, Headed, Entered, wordForm}
+use Rattle.plan.specs.Lines.{Numbers, restOf, Fielded, Faulted, Headed, Entered, wordForm}
 use Rattle.plan.proofs.Padded.{all-same}
 use Rattle.plan.proofs.Judges.{says-of}
 use Rattle.plan.proofs.Walks as W
@@ -26,14 +26,6 @@ use Rattle.plan.proofs.Steps as S
 use Rattle.plan.proofs.Steps.{Walking, lines}
 use Rattle.plan.proofs.read_lines.Statement.{statement}
 use Rattle.plan.proofs.read_lines.Tie as tie
-use Rattle.plan.proofs.read_lines.Reads as reads
-use Rattle.plan.proofs.read_lines.Lts as lts
-use Rattle.plan.proofs.empty_plan.Reads as empty-plan-reads
-use Rattle.plan.proofs.take_line.Reads as take-line-reads
-use Rattle.plan.proofs.with_number.Reads as with-number-reads
-use Rattle.text.proofs.find.Reads as find-reads
-use Rattle.text.proofs.read_number.Reads as read-number-reads
-use Rattle.text.proofs.read_word.Reads as read-word-reads
 
 -- in a line, before the field at p: the numbers seen, with those that are left, are all
 record Scanning (text : List ℕ) (first end fault : ℕ) (f : Fields) (p : ℕ) : Type 0 where

@@ -1,6 +1,5 @@
 -- `plan::row_of` meets its contract: events in range and the places of levels fit their fields.
 use mathlib.Core.Path.{_≡_}
-use Prim.Native.Nat.{_<_}
 use native.Mathlib.Omega.{arith}
 use lib.IntN.{natAbs}
 use mir.Facts.{toZ-ofZ}
@@ -8,9 +7,6 @@ use Rattle.plan.proofs.Tests.{range-a, range-b, event-sign, event-small
 use borrow.Author.Needs.{needs}
 use Rattle.plan.proofs.row_of.Statement.{statement}
 use Rattle.plan.proofs.row_of.Tie as tie
-use Rattle.plan.proofs.row_of.Reads as reads
-use Rattle.plan.proofs.row_of.Lts as lts
-use Rattle.plan.proofs.size_of.Reads as size-of-reads
 
 a-is : (c : tie.After-size-of) → c .size-of .result ≡ natAbs (c .before .args .a)
 a-is c = rw (toZ-ofZ (c .before .fits .a)) at (c .size-of .ensures)

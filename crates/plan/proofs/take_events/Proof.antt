@@ -1,7 +1,7 @@
 -- `plan::take_events` meets its contract: the tests in turn.
-use mathlib.Core.Path.{_≡_, refl, sym, ap, _∙_}
-use mathlib.Core.Bool.{true, false}
-use Prim.Native.Nat.{ℕ, _≤_, _<_}
+use mathlib.Core.Path.{_≡_, refl, sym, _∙_}
+use mathlib.Core.Bool.{true}
+use Prim.Native.Nat.{_≤_}
 use native.Mathlib.Omega.{arith}
 use borrow.Author.Tests.{not-true, not-false}
 use lib.Dec.{T}
@@ -11,16 +11,12 @@ use lib.Signed.{nonNeg}
 use mir.Syntax.{w32}
 use mir.Val.{SFits}
 use mir.Facts.{toZ-ofZ}
-use Rattle.meaning.specs.Reading.{between, item}
+use Rattle.meaning.specs.Reading.{between}
 use Rattle.plan.proofs.Tests.{above, below, sign, small}
 use Rattle.plan.proofs.Judges as J
 use borrow.Author.Needs.{needs}
 use Rattle.plan.proofs.take_events.Statement.{statement}
 use Rattle.plan.proofs.take_events.Tie as tie
-use Rattle.plan.proofs.take_events.Reads as reads
-use Rattle.plan.proofs.take_events.Lts as lts
-use Rattle.plan.proofs.is_between.Reads as is-between-reads
-use Rattle.plan.proofs.size_of.Reads as size-of-reads
 
 fits-n : (c : tie.After-n) → SFits w32 (getD (c .before .before .before .args .t2 .first) 0 (pos 0))
 fits-n c = record { sfits = c .n .given }

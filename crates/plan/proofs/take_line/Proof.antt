@@ -10,11 +10,6 @@ use Rattle.plan.proofs.Judges as J
 use borrow.Author.Needs.{needs}
 use Rattle.plan.proofs.take_line.Statement.{statement}
 use Rattle.plan.proofs.take_line.Tie as tie
-use Rattle.plan.proofs.take_line.Reads as reads
-use Rattle.plan.proofs.take_line.Lts as lts
-use Rattle.plan.proofs.take_events.Reads as take-events-reads
-use Rattle.plan.proofs.take_rule.Reads as take-rule-reads
-use Rattle.plan.proofs.take_wish.Reads as take-wish-reads
 
 enum-told : tie.Need-enum-told
 enum-told c = search needs

@@ -15,12 +15,6 @@ use Rattle.plan.proofs.Judges as J
 use borrow.Author.Needs.{needs}
 use Rattle.plan.proofs.take_rule.Statement.{statement}
 use Rattle.plan.proofs.take_rule.Tie as tie
-use Rattle.plan.proofs.take_rule.Reads as reads
-use Rattle.plan.proofs.take_rule.Lts as lts
-use Rattle.plan.proofs.in_range.Reads as in-range-reads
-use Rattle.plan.proofs.row_of.Reads as row-of-reads
-use Rattle.ticks.proofs.at_most.Reads as at-most-reads
-use Rattle.ticks.proofs.equal.Reads as equal-reads
 
 fits-a : (c : tie.After-a) → SFits w32 (getD (c .before .before .before .before .args .t2 .first) 0 (pos 0))
 fits-a c = record { sfits = c .a .given }
@@ -41,7 +35,7 @@ ranged : (c : tie.Else4) → inRange (c .before .before .before .before .before 
 ranged c = ranges (c .before) ∙ not-false _ (c .if4 .left)
 
 order : (c : tie.After-at-most) → leZ (getD (c .before .before .before .before .before .before .before .before .before .before .args .t2 .first) 2 (pos 0)) (getD (c .before .before .before .before .before .before .before .before .before .before .args .t2 .first) 3 (pos 0)) ≡ c .at-most .result
-order c = sym (rw (toZ-ofZ (fits-lo (c .before .before .before .before)), toZ-ofZ (fits-hi (c .before .before .before))) at (c .at-most .ensures))
+order c = sym (simp (toZ-ofZ (fits-lo (c .before .before .before .before)), toZ-ofZ (fits-hi (c .before .before .before))) at (c .at-most .ensures))
 
 ordered : (c : tie.Else5) → leZ (getD (c .before .before .before .before .before .before .before .before .before .before .before .args .t2 .first) 2 (pos 0)) (getD (c .before .before .before .before .before .before .before .before .before .before .before .args .t2 .first) 3 (pos 0)) ≡ true
 ordered c = order (c .before) ∙ not-false _ (c .if5 .left)

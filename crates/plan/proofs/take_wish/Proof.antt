@@ -1,7 +1,7 @@
 -- `plan::take_wish` meets its contract: the tests in turn; the levels are read into the area, and tested there.
 use mathlib.Core.Path.{_≡_, refl, sym, ap, _∙_}
-use mathlib.Core.Bool.{true, false, _&&_}
-use mathlib.Core.List.{List, map}
+use mathlib.Core.Bool.{true}
+use mathlib.Core.List.{map}
 use Prim.Native.Nat.{ℕ, _+_, _-_, _≤_, _<_}
 use native.Mathlib.Omega.{arith}
 use borrow.Author.Tests.{not-true, not-false, ltb-true, leb-true}
@@ -22,17 +22,6 @@ use Rattle.plan.proofs.Judges as J
 use borrow.Author.Needs.{needs}
 use Rattle.plan.proofs.take_wish.Statement.{statement}
 use Rattle.plan.proofs.take_wish.Tie as tie
-use Rattle.plan.proofs.take_wish.Reads as reads
-use Rattle.plan.proofs.take_wish.Lts as lts
-use Rattle.plan.proofs.after_three.Reads as after-three-reads
-use Rattle.plan.proofs.has_room.Reads as has-room-reads
-use Rattle.plan.proofs.in_range.Reads as in-range-reads
-use Rattle.plan.proofs.is_end.Reads as is-end-reads
-use Rattle.plan.proofs.is_peaked.Reads as is-peaked-reads
-use Rattle.plan.proofs.last_of.Reads as last-of-reads
-use Rattle.plan.proofs.read_levels.Reads as read-levels-reads
-use Rattle.plan.proofs.row_of.Reads as row-of-reads
-use Rattle.ticks.proofs.equal.Reads as equal-reads
 
 -- how many levels
 many : (c : tie.After-shared-slice-known) → length (drop 3 (restOf (slice (c .before .args .first) (c .before .args .end) (c .before .args .text .now)))) ≡ (c .before .args .t2 .count - 3)

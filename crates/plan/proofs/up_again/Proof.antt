@@ -2,8 +2,6 @@
 use borrow.Author.Needs.{needs}
 use Rattle.plan.proofs.up_again.Statement.{statement}
 use Rattle.plan.proofs.up_again.Tie as tie
-use Rattle.plan.proofs.up_again.Reads as reads
-use Rattle.plan.proofs.up_again.Lts as lts
 
 returns : tie.Need-returns
 returns c = rw (c .if1 .taken)

@@ -1,17 +1,15 @@
 -- `plan::with_number` meets its contract: what is stored right after the last number makes the list longer.
-use mathlib.Core.Path.{_≡_, sym, ap, _∙_}
-use mathlib.Core.List.{List, [], _∷_, _++_}
-use Prim.Native.Nat.{ℕ, _+_, _<_, _≤_}
+use mathlib.Core.Path.{sym, _∙_}
+use mathlib.Core.List.{[], _∷_}
+use Prim.Native.Nat.{_<_}
 use native.Mathlib.Omega.{arith}
-use lib.IntN.{ℤ, pos}
-use lib.ListN.{length, getD, length-set, length-append, List·getD-append}
+use lib.IntN.{pos}
+use lib.ListN.{length-set, length-append, List·getD-append}
 use mir.Facts.{toZ-ofZ}
 use Rattle.plan.proofs.Padded.{one-more}
 use borrow.Author.Needs.{needs}
 use Rattle.plan.proofs.with_number.Statement.{statement}
 use Rattle.plan.proofs.with_number.Tie as tie
-use Rattle.plan.proofs.with_number.Reads as reads
-use Rattle.plan.proofs.with_number.Lts as lts
 
 add-g : tie.Need-add-g
 add-g c = search needs

@@ -3,7 +3,7 @@ use mathlib.Core.Path.{_≡_, refl}
 use borrow.Author.Needs.{needs}
 use Rattle.meaning.specs.Reading.{read}
 use Rattle.plan.specs.Held.{planIn}
-use Rattle.solver.proofs.Settles.{times-short, levels-short, chain-short, refused-promise, settled-promise, read-refused, read-taken, read-memory}
+use Rattle.solver.proofs.Settles.{times-short, levels-short, chain-short, refused-solves, settled-solves, read-refused, read-taken, read-memory}
 use Rattle.solver.proofs.solve.Statement.{statement}
 use Rattle.solver.proofs.solve.Tie as tie
 
@@ -53,11 +53,11 @@ returns-4 : tie.Need-returns-4
 returns-4 c =
     let r = c .before .before .before .before .before .before .before .before .before .before .before .before .before .read .ensures in
     let e = c .before .before .before .before .before .before .before .before .before .before .enum-told .given .1 in
-    settled-promise _ _ _ _ (c .before .before .before .before .before .before .before .before .before .before .before .before .before .before .before .before .before .if1 .left) (c .before .before .before .before .before .before .before .before .before .before .before .before .before .before .before .before .if2 .left) (c .before .before .before .before .before .before .before .before .before .before .before .before .before .before .before .if3 .left) (read-taken r refl e) (c .before .before .before .before .before .settle .ensures (planIn (read (c .before .before .before .before .before .before .before .before .before .before .before .before .before .before .before .before .before .before .before .before .before .args .text .now))) (read-memory r refl e))
+    settled-solves _ _ _ _ (c .before .before .before .before .before .before .before .before .before .before .before .before .before .before .before .before .before .if1 .left) (c .before .before .before .before .before .before .before .before .before .before .before .before .before .before .before .before .if2 .left) (c .before .before .before .before .before .before .before .before .before .before .before .before .before .before .before .if3 .left) (read-taken r refl e) (c .before .before .before .before .before .settle .ensures (planIn (read (c .before .before .before .before .before .before .before .before .before .before .before .before .before .before .before .before .before .before .before .before .before .args .text .now))) (read-memory r refl e))
 
 returns-5 : tie.Need-returns-5
 returns-5 c =
-    refused-promise _ _ _ _ (c .before .before .before .before .before .before .before .before .if1 .left) (c .before .before .before .before .before .before .before .if2 .left) (c .before .before .before .before .before .before .if3 .left) (read-refused (c .before .before .before .before .read .ensures) refl (c .before .verdict .given .1))
+    refused-solves _ _ _ _ (c .before .before .before .before .before .before .before .before .if1 .left) (c .before .before .before .before .before .before .before .if2 .left) (c .before .before .before .before .before .before .if3 .left) (read-refused (c .before .before .before .before .read .ensures) refl (c .before .verdict .given .1))
 
 pub solve-spec : {M : Type 1} → statement M
 solve-spec =

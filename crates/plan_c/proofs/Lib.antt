@@ -1,0 +1,1 @@
+-- The proofs of `plan_c` share nothing.

@@ -1,0 +1,39 @@
+-- `plan_c::plan_number` meets its contract: by the verdict.
+use mathlib.Core.Path.{sym, ap}
+use Rattle.plan.specs.Held.{number}
+use borrow.Author.Needs.{needs}
+use Rattle.plan_c.proofs.plan_number.Statement.{statement}
+use Rattle.plan_c.proofs.plan_number.Tie as tie
+
+read-requires : tie.Need-read-requires
+read-requires c κs = search needs
+
+enum-told : tie.Need-enum-told
+enum-told c = search needs
+
+enum-known-verdict : tie.Need-enum-known-verdict
+enum-known-verdict c = search needs
+
+same-length : tie.Need-same-length
+same-length c = search needs
+
+returns : tie.Need-returns
+returns c = record { answer = c .before .before .before .before .read .result; read = c .before .before .before .before .read .ensures; got = sym (ap number (c .enum-told .given .1)) }
+
+same-length-2 : tie.Need-same-length-2
+same-length-2 c = search needs
+
+returns-2 : tie.Need-returns-2
+returns-2 c = record { answer = c .before .before .before .before .before .read .result; read = c .before .before .before .before .before .read .ensures; got = sym (ap number (c .before .verdict .given .1)) }
+
+pub plan-number-spec : {M : Type 1} → statement M
+plan-number-spec =
+    tie.close
+    (tie.spec
+    read-requires
+    enum-told
+    enum-known-verdict
+    same-length
+    returns
+    same-length-2
+    returns-2)

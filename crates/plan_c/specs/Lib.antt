@@ -1,0 +1,2 @@
+-- What the functions for Rust and C answer.
+pub mod Asked

@@ -1,0 +1,29 @@
+-- `solver::timetable_solve` meets its contract: what `solve` promises, by number and place.
+use mathlib.Core.Path.{_≡_}
+use borrow.Author.Needs.{needs}
+use Rattle.solver.proofs.timetable_solve.Statement.{statement}
+use Rattle.solver.proofs.timetable_solve.Tie as tie
+
+solve-requires : tie.Need-solve-requires
+solve-requires c κs = search needs
+
+place-in-requires : tie.Need-place-in-requires
+place-in-requires c κs = search needs
+
+number-of-requires : tie.Need-number-of-requires
+number-of-requires c κs = search needs
+
+same-length : tie.Need-same-length
+same-length c = search needs
+
+same-length-2 : tie.Need-same-length-2
+same-length-2 c = search needs
+
+same-length-3 : tie.Need-same-length-3
+same-length-3 c = search needs
+
+returns : tie.Need-returns
+returns c = rw (c .number-of .ensures, c .before .place-in .ensures) (c .before .before .before .before .before .before .before .solve .ensures .promise)
+
+pub timetable-solve-spec : {M : Type 1} → statement M
+timetable-solve-spec = tie.close (tie.spec solve-requires place-in-requires number-of-requires same-length same-length-2 same-length-3 returns)
