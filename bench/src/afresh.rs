@@ -1,0 +1,140 @@
+//! Two solvers that find the distances afresh for every question of the ladder. Flat arrays, nothing allocated in between.
+use outside::plan::{Plan, Record};
+
+const MOST: usize = 64;
+
+/// Whether bounds leave a timetable. `times` gets the earliest one.
+pub trait Question {
+    fn put(&mut self, events: usize, bounds: &[Bound], times: &mut [i32; MOST]) -> bool;
+}
+
+/// t(end) − t(start) ≤ weight.
+#[derive(Clone, Copy)]
+pub struct Bound {
+    start: u32,
+    end: u32,
+    weight: i32,
+}
+
+pub struct Solved {
+    pub times: Vec<i64>,
+    pub levels: Vec<u8>,
+    pub questions: usize,
+}
+
+/// Climbs the ladder. A wish that is stuck is not asked again.
+pub fn solve(plan: &Plan, question: &mut impl Question) -> Option<Solved> {
+    let mut bounds = all_bounds(plan);
+    let mut times = [0; MOST];
+    let mut questions = 1;
+    if !question.put(plan.events, &bounds, &mut times) {
+        return None;
+    }
+    let mut climbing: Vec<(usize, &Record)> = plan.wishes().collect();
+    for grade in 1..=15 {
+        climbing.retain(|&(record, wish)| {
+            let Some((low, high)) = run(wish, grade) else { return false };
+            let before = [bounds[2 * record], bounds[2 * record + 1]];
+            bounds[2 * record].weight = high;
+            bounds[2 * record + 1].weight = -low;
+            questions += 1;
+            let mut trial = [0; MOST];
+            let yes = question.put(plan.events, &bounds, &mut trial);
+            if yes {
+                times = trial;
+            } else {
+                bounds[2 * record..2 * record + 2].copy_from_slice(&before);
+            }
+            yes
+        });
+    }
+    let times: Vec<i64> = times[..plan.events].iter().map(|&time| time.into()).collect();
+    let level = |wish: &Record| wish.levels()[(times[wish.end] - times[wish.start] - wish.low) as usize];
+    let levels = plan.wishes().map(|(_, wish)| level(wish)).collect();
+    Some(Solved { times, levels, questions })
+}
+
+/// Two bounds for each record, then two for each event but the origin.
+fn all_bounds(plan: &Plan) -> Vec<Bound> {
+    let bound =
+        |start: usize, end: usize, weight: i64| Bound { start: start as u32, end: end as u32, weight: weight as i32 };
+    let of_record = |r: &Record| [bound(r.start, r.end, r.high()), bound(r.end, r.start, -r.low)];
+    let of_horizon = |e: usize| [bound(0, e, plan.horizon), bound(e, 0, 0)];
+    plan.records.iter().flat_map(of_record).chain((1..plan.events).flat_map(of_horizon)).collect()
+}
+
+/// The distances at this grade or more.
+fn run(wish: &Record, grade: u8) -> Option<(i32, i32)> {
+    let first = wish.levels().iter().position(|&level| level >= grade)?;
+    let last = wish.levels().iter().rposition(|&level| level >= grade)?;
+    Some((wish.low as i32 + first as i32, wish.low as i32 + last as i32))
+}
+
+/// Delays events until all bounds hold, or for more rounds than there are events.
+pub struct BellmanFord;
+
+impl Question for BellmanFord {
+    fn put(&mut self, events: usize, bounds: &[Bound], times: &mut [i32; MOST]) -> bool {
+        *times = [0; MOST];
+        for _ in 0..=events {
+            let mut still = true;
+            for bound in bounds {
+                let least = times[bound.end as usize % MOST] - bound.weight;
+                let time = &mut times[bound.start as usize % MOST];
+                if *time < least {
+                    *time = least;
+                    still = false;
+                }
+            }
+            if still {
+                return true;
+            }
+            // The origin would have to move: no timetable.
+            if times[0] > 0 {
+                return false;
+            }
+        }
+        false
+    }
+}
+
+/// All shortest distances between events.
+pub struct FloydWarshall {
+    distances: [[i32; MOST]; MOST],
+}
+
+impl FloydWarshall {
+    pub fn new() -> FloydWarshall {
+        FloydWarshall { distances: [[0; MOST]; MOST] }
+    }
+}
+
+/// Further than any bound reaches, and small enough to be added twice.
+const FAR: i32 = 1_000_000_000;
+
+impl Question for FloydWarshall {
+    fn put(&mut self, events: usize, bounds: &[Bound], times: &mut [i32; MOST]) -> bool {
+        let d = &mut self.distances;
+        for (event, row) in d.iter_mut().enumerate() {
+            *row = [FAR; MOST];
+            row[event] = 0;
+        }
+        for bound in bounds {
+            let entry = &mut d[bound.start as usize % MOST][bound.end as usize % MOST];
+            *entry = bound.weight.min(*entry);
+        }
+        for over in 0..events {
+            let onward = d[over];
+            for row in d.iter_mut().take(events) {
+                let first = row[over];
+                for (entry, second) in row.iter_mut().zip(&onward) {
+                    *entry = (*entry).min(first + second);
+                }
+            }
+        }
+        for event in 0..events {
+            times[event] = -d[event][0];
+        }
+        (0..events).all(|event| d[event][event] == 0)
+    }
+}

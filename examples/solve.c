@@ -1,0 +1,93 @@
+/* Solves the plan in a file, or from standard input, and prints it as the program `timetable` does.
+ *
+ *     cc -Iinclude -o solve examples/solve.c target/staticlib/libsolver.a
+ *     ./solve examples/update.plan */
+#include <inttypes.h>
+#include <stdio.h>
+#include <stdlib.h>
+
+#include "timetable.h"
+
+/* One byte more than is allowed, so that a longer text is seen to be too long; and a 0 at the end. */
+static char text[TIMETABLE_TEXT + 2];
+
+/* The line of a record: line 1 is `events`. */
+static const char *line_of(size_t record) {
+    const char *line = text;
+    for (size_t feeds = 0; feeds <= record; line++) {
+        feeds += *line == '\n';
+    }
+    return line;
+}
+
+/* The last number of a rule is hi; a wish has a level for each distance from lo on. */
+static int high_of(const char *line, int lo) {
+    int hi = lo - 1, tabs = 0;
+    if (*line == 'r') {
+        sscanf(line, "rule %*d %*d %*d %d", &hi);
+        return hi;
+    }
+    for (; *line != '\n'; line++) {
+        tabs += *line == '\t';
+    }
+    return hi + tabs - 3;
+}
+
+static void print_step(unsigned code) {
+    int from = 0, to = 0, lo = 0, hi = 0;
+    if (code >= TIMETABLE_HORIZON_CODE) {
+        to = (int)(code - TIMETABLE_HORIZON_CODE) / 2;
+        sscanf(text, "events %*d %d", &hi);
+    } else {
+        const char *line = line_of(code / 2);
+        sscanf(line, "%*s %d %d %d", &from, &to, &lo);
+        hi = high_of(line, lo);
+    }
+    if (code % 2 == 0) {
+        printf("step\t%d\t%d\t%d\t%u\n", from, to, hi, code);
+    } else {
+        printf("step\t%d\t%d\t%d\t%u\n", to, from, -lo, code);
+    }
+}
+
+static void print_solved(const int64_t *times, const uint8_t *levels, size_t wishes) {
+    int events = 0;
+    sscanf(text, "events %d", &events);
+    printf("solved\t%d\t%zu\n", events, wishes);
+    for (int event = 0; event < events; event++) {
+        printf("at\t%d\t%" PRId64 "\n", event, times[event]);
+    }
+    size_t wish = 0;
+    for (size_t record = 0; wish < wishes; record++) {
+        if (*line_of(record) == 'w') {
+            printf("level\t%zu\t%d\n", record, levels[wish++]);
+        }
+    }
+}
+
+int main(int count, char **words) {
+    FILE *file = count > 1 ? fopen(words[1], "rb") : stdin;
+    if (file == NULL) {
+        perror(words[1]);
+        return EXIT_FAILURE;
+    }
+    size_t length = fread(text, 1, TIMETABLE_TEXT + 1, file);
+
+    int64_t times[TIMETABLE_TIMES];
+    uint8_t levels[TIMETABLE_LEVELS];
+    uint16_t chain[TIMETABLE_CHAIN];
+    size_t place = 0;
+    uint8_t number = timetable_solve((const uint8_t *)text, length, times, TIMETABLE_TIMES, levels, TIMETABLE_LEVELS,
+                                     chain, TIMETABLE_CHAIN, &place);
+    if (number == TIMETABLE_SOLVED) {
+        print_solved(times, levels, place);
+    } else if (number == TIMETABLE_NONE) {
+        printf("none\t%zu\n", place);
+        for (size_t step = 0; step < place; step++) {
+            print_step(chain[step]);
+        }
+    } else {
+        printf("refused\t%d\t%zu\n", number, place);
+    }
+    return EXIT_SUCCESS;
+}

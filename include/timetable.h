@@ -1,0 +1,62 @@
+/* Step timetables: best timetables of plans with rules and wishes, over whole numbers.
+ *
+ * Link with libsolver.a. The library allocates nothing, keeps nothing between calls and needs at most 64 KB of stack. */
+#ifndef TIMETABLE_H
+#define TIMETABLE_H
+
+#include <stddef.h>
+#include <stdint.h>
+
+#ifdef __cplusplus
+extern "C" {
+#endif
+
+/* The least numbers of entries of the three result areas, and the most bytes of a text. */
+#define TIMETABLE_TIMES 64
+#define TIMETABLE_LEVELS 256
+#define TIMETABLE_CHAIN 64
+#define TIMETABLE_TEXT 60000
+
+/* The outcome is a number, which timetable_solve returns, and a place, which it stores in *place.
+ *
+ *   No.  when                                                place                written
+ *   0    solved                                              count of wishes w    times: first n, the time of each event;
+ *                                                                                 levels: first w, in record order
+ *   1    no timetable                                        count of chain steps chain: that many entries
+ *   2    the text or a line has the wrong form               line, from 1         nothing
+ *   3    text length, number of records, levels in one wish  line; 0 for the      nothing
+ *        or levels together above what is allowed            text's length
+ *   4    a number out of range, or lo > hi                   line                 nothing
+ *   5    a = b                                               line                 nothing
+ *   6    levels not single-peaked                            line                 nothing
+ *   7    a result area too short                             0                    nothing
+ *
+ * All other entries of the three areas keep their old contents. 7 comes first, then 3 for the text's length, then the first
+ * line with a fault, and in it the first fault in the order 2 to 6. */
+#define TIMETABLE_SOLVED 0
+#define TIMETABLE_NONE 1
+#define TIMETABLE_WRONG_FORM 2
+#define TIMETABLE_TOO_MANY 3
+#define TIMETABLE_OUT_OF_RANGE 4
+#define TIMETABLE_SAME_EVENT 5
+#define TIMETABLE_NOT_PEAKED 6
+#define TIMETABLE_SHORT_AREA 7
+
+/* A chain is a row of bounds t(end) - t(start) <= weight that lead round and whose weights sum below zero. An entry is the
+ * code of a bound, for record k (from 0) and event e:
+ *
+ *   2k        from a to b, weight hi          512 + 2e  from 0 to e, weight horizon
+ *   2k + 1    from b to a, weight -lo         513 + 2e  from e to 0, weight 0 */
+#define TIMETABLE_HORIZON_CODE 512
+
+/* Solves the plan in text[0 .. n-1]. The areas hold nt, nl and nc entries.
+ *
+ * No pointer may be null, also where a length is 0. The areas and *place overlap neither each other nor the text. */
+uint8_t timetable_solve(const uint8_t *text, size_t n, int64_t *times, size_t nt, uint8_t *levels, size_t nl,
+                        uint16_t *chain, size_t nc, size_t *place);
+
+#ifdef __cplusplus
+}
+#endif
+
+#endif

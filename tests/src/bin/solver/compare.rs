@@ -1,0 +1,98 @@
+//! One call of the proved solver, held to the plain reader and the second solver.
+use outside::bounds::check_chain;
+use outside::library::{solver as library, Area};
+use outside::outcome::Outcome;
+use outside::plan::Plan;
+use outside::reader::read;
+use outside::second;
+use outside::tally::{same, same_entries};
+
+/// The lengths of the three lent areas.
+#[derive(Clone, Copy)]
+pub struct Lengths {
+    pub times: usize,
+    pub levels: usize,
+    pub chain: usize,
+}
+
+/// Exactly as long as they have to be.
+pub const LEAST: Lengths =
+    Lengths { times: library::TIMES_AREA, levels: library::LEVELS_AREA, chain: library::CHAIN_AREA };
+
+impl Lengths {
+    fn too_short(&self) -> bool {
+        self.times < LEAST.times || self.levels < LEAST.levels || self.chain < LEAST.chain
+    }
+}
+
+/// What one call gave, and the areas afterwards.
+struct Given {
+    number: u8,
+    place: usize,
+    times: Area<i64>,
+    levels: Area<u8>,
+    chain: Area<u16>,
+}
+
+/// The outcome of the proved solver, once everything about it has been checked.
+pub fn compare(text: &[u8]) -> Result<Outcome, String> {
+    compare_with(text, LEAST)
+}
+
+pub fn compare_with(text: &[u8], lengths: Lengths) -> Result<Outcome, String> {
+    let given = call(text, lengths)?;
+    let outcome = wanted(text, lengths, &given)?;
+    same("number", outcome.number(), given.number)?;
+    same("place", outcome.place(), given.place)?;
+    let (times, levels, chain) = match &outcome {
+        Outcome::Solved { times, levels } => (times.clone(), levels.clone(), vec![]),
+        Outcome::None { chain } => (vec![], vec![], chain.clone()),
+        Outcome::Refused { .. } => (vec![], vec![], vec![]),
+    };
+    same_entries("times area with its guards", &old_times(lengths).with_front(&times), given.times.all())?;
+    same_entries("levels area with its guards", &old_levels(lengths).with_front(&levels), given.levels.all())?;
+    same_entries("chain area with its guards", &old_chain(lengths).with_front(&chain), given.chain.all())?;
+    Ok(outcome)
+}
+
+fn call(text: &[u8], lengths: Lengths) -> Result<Given, String> {
+    let lent_text = text.to_vec();
+    let (mut times, mut levels, mut chain) = (old_times(lengths), old_levels(lengths), old_chain(lengths));
+    let (number, place) = library::solve(&lent_text, times.lent(), levels.lent(), chain.lent());
+    same_entries("text afterwards", text, &lent_text)?;
+    Ok(Given { number, place, times, levels, chain })
+}
+
+/// The right outcome. Where there is no timetable, any true chain is right: the given one is checked and taken over.
+fn wanted(text: &[u8], lengths: Lengths, given: &Given) -> Result<Outcome, String> {
+    if lengths.too_short() {
+        return Ok(Outcome::Refused { number: 7, place: 0 });
+    }
+    let plan = match read(text) {
+        Ok(plan) => plan,
+        Err((number, place)) => return Ok(Outcome::Refused { number, place }),
+    };
+    match second::solve(&plan) {
+        Some(second::Solution { times, levels }) => Ok(Outcome::Solved { times, levels }),
+        None => true_chain(&plan, given),
+    }
+}
+
+fn true_chain(plan: &Plan, given: &Given) -> Result<Outcome, String> {
+    same("number where there is no timetable", 1, given.number)?;
+    let written = given.chain.entries().get(..given.place).ok_or(format!("{} chain steps", given.place))?;
+    check_chain(plan, written)?;
+    Ok(Outcome::None { chain: written.to_vec() })
+}
+
+fn old_times(lengths: Lengths) -> Area<i64> {
+    Area::new(lengths.times, |entry| i64::MIN + entry as i64)
+}
+
+fn old_levels(lengths: Lengths) -> Area<u8> {
+    Area::new(lengths.levels, |entry| (entry % 199) as u8 + 50)
+}
+
+fn old_chain(lengths: Lengths) -> Area<u16> {
+    Area::new(lengths.chain, |entry| 60_000 + entry as u16)
+}

@@ -1,0 +1,162 @@
+//! The proved solver, the program `timetable` and the C example against the plain reader, the second solver and exhaustive
+//! search.
+mod compare;
+mod example;
+mod program;
+mod stack;
+
+use compare::{compare, compare_with, Lengths, LEAST};
+use outside::chance::Chance;
+use outside::generate::{self, Shape};
+use outside::limits::{self, Stated};
+use outside::outcome::Outcome;
+use outside::plan::Plan;
+use outside::reader::{read, Refusal};
+use outside::tally::{same, Group, Tally};
+use outside::{damage, exhaustive, known};
+use std::process::ExitCode;
+
+fn main() -> ExitCode {
+    if let Some(kilobytes) = stack::asked() {
+        return stack::solve_full_plan(kilobytes);
+    }
+    let mut tally = Tally::default();
+    tally.group("known plans", |group| known_plans(group, known::cases()));
+    tally.group("256 and 257 rules", |group| known_plans(group, known::many_rules()));
+    tally.group("texts at the limits", |group| stated_cases(group, limits_of_section_1()));
+    tally.group("order of faults", |group| stated_cases(group, limits::orders()));
+    tally.group("areas too short, exact and longer", areas);
+    tally.group("small plans by exhaustive search", |group| small_plans(group, 6_000));
+    tally.group("random plans", |group| random_plans(group, 6_000));
+    tally.group("random full plans", |group| full_plans(group, 150));
+    tally.group("paths through all events", paths);
+    tally.group("damaged texts", |group| damaged_texts(group, 8_000));
+    tally.group("a full plan in a thread with a stack of 64 KB", stack::small_stack);
+    tally.group("the program timetable", program::printed_forms);
+    tally.group("the C example", example::c_program);
+    tally.finish()
+}
+
+fn known_plans(group: &mut Group, cases: Vec<(Vec<u8>, Outcome)>) {
+    for (text, outcome) in cases {
+        group.case(&text, compare(&text).and_then(|given| same("outcome", &outcome, &given).map(|()| given.kind())));
+    }
+}
+
+fn limits_of_section_1() -> Vec<Stated> {
+    [limits::numbers(), limits::counts(), limits::lengths(), limits::forms()].concat()
+}
+
+fn stated_cases(group: &mut Group, cases: Vec<Stated>) {
+    for (text, refusal) in cases {
+        group.case(&text, compare(&text).and_then(|given| same_refusal(refusal, given)));
+    }
+}
+
+fn same_refusal(stated: Option<Refusal>, given: Outcome) -> Result<String, String> {
+    let refusal = match given {
+        Outcome::Refused { number, place } => Some((number, place)),
+        _ => None,
+    };
+    same("refusal", stated, refusal).map(|()| given.kind())
+}
+
+/// Each area one entry short, exactly long enough, and longer; for a solved plan, one without a timetable, and a refusal.
+fn areas(group: &mut Group) {
+    let known = known::cases().into_iter().map(|(text, _)| text);
+    for text in known.chain([vec![b'\n'; 60_001], full_plan()]) {
+        for lengths in all_lengths() {
+            group.case(&text, compare_with(&text, lengths).map(|given| given.kind()));
+        }
+    }
+}
+
+fn all_lengths() -> Vec<Lengths> {
+    let mut all = Vec::new();
+    let around = |least: usize| [0, 1, least - 1, least, least + 1, least + 300];
+    for times in around(LEAST.times) {
+        for levels in around(LEAST.levels) {
+            for chain in around(LEAST.chain) {
+                all.push(Lengths { times, levels, chain });
+            }
+        }
+    }
+    all
+}
+
+/// 64 events, 256 records, nearly all of them wishes.
+pub fn full_plan() -> Vec<u8> {
+    let shape = Shape {
+        events: 64,
+        horizon: 5_000,
+        records: 256,
+        wishes: 95,
+        levels: 60,
+        heights: &[15],
+        slack: 500,
+        moved: 0,
+        moved_by: 0,
+    };
+    generate::plan(&mut Chance::new(64), &shape).text()
+}
+
+fn small_plans(group: &mut Group, count: usize) {
+    let mut chance = Chance::new(11);
+    for _ in 0..count {
+        let shape = generate::small_shape(&mut chance);
+        let plan = generate::plan(&mut chance, &shape);
+        let text = plan.text();
+        group.case(&text, compare(&text).and_then(|given| by_exhaustive_search(&plan, &given).map(|()| given.kind())));
+    }
+}
+
+fn by_exhaustive_search(plan: &Plan, given: &Outcome) -> Result<(), String> {
+    match given {
+        Outcome::Solved { times, levels } => exhaustive::check_solved(plan, times, levels),
+        Outcome::None { .. } => exhaustive::check_none(plan),
+        Outcome::Refused { number, place } => Err(format!("refused {number} {place}")),
+    }
+}
+
+fn random_plans(group: &mut Group, count: usize) {
+    let mut chance = Chance::new(12);
+    for _ in 0..count {
+        let shape = generate::any_shape(&mut chance);
+        plan_case(group, &generate::plan(&mut chance, &shape));
+    }
+}
+
+fn full_plans(group: &mut Group, count: usize) {
+    let mut chance = Chance::new(13);
+    for _ in 0..count {
+        let shape = generate::full_shape(&mut chance);
+        plan_case(group, &generate::plan(&mut chance, &shape));
+    }
+}
+
+/// The longest chains and the slowest spreading of delays: one tick too few, just enough, some to share out.
+fn paths(group: &mut Group) {
+    let mut chance = Chance::new(15);
+    for events in 2..=64 {
+        for room in [-1, -1, 0, 0, 5, 40] {
+            plan_case(group, &generate::path(&mut chance, events, room));
+        }
+    }
+}
+
+/// A plan's text is read as that plan, and solved as the second solver does.
+fn plan_case(group: &mut Group, plan: &Plan) {
+    let text = plan.text();
+    let plain = same("the plain reader's plan", Ok(plan), read(&text).as_ref());
+    group.case(&text, plain.and_then(|()| compare(&text)).map(|given| given.kind()));
+}
+
+fn damaged_texts(group: &mut Group, count: usize) {
+    let mut chance = Chance::new(14);
+    for _ in 0..count {
+        let shape = generate::any_shape(&mut chance);
+        let text = generate::plan(&mut chance, &shape).text();
+        let text = damage::at_random(&mut chance, &text);
+        group.case(&text, compare(&text).map(|given| given.kind()));
+    }
+}

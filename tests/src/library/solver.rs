@@ -1,0 +1,40 @@
+//! The proved solver (static library `solver`).
+
+/// The least lengths of the three lent areas.
+pub const TIMES_AREA: usize = 64;
+pub const LEVELS_AREA: usize = 256;
+pub const CHAIN_AREA: usize = 64;
+
+#[link(name = "solver", kind = "static")]
+extern "C" {
+    fn timetable_solve(
+        text: *const u8,
+        n: usize,
+        times: *mut i64,
+        nt: usize,
+        levels: *mut u8,
+        nl: usize,
+        chain: *mut u16,
+        nc: usize,
+        place: *mut usize,
+    ) -> u8;
+}
+
+/// The number and the place of the outcome; the rest of it is in the areas.
+pub fn solve(text: &[u8], times: &mut [i64], levels: &mut [u8], chain: &mut [u16]) -> (u8, usize) {
+    let mut place = usize::MAX;
+    let number = unsafe {
+        timetable_solve(
+            text.as_ptr(),
+            text.len(),
+            times.as_mut_ptr(),
+            times.len(),
+            levels.as_mut_ptr(),
+            levels.len(),
+            chain.as_mut_ptr(),
+            chain.len(),
+            &mut place,
+        )
+    };
+    (number, place)
+}

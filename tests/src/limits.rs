@@ -1,0 +1,211 @@
+//! Texts at the limits of document 01, one past them, and with several faults, each with the refusal that sections 1 to 4 state.
+use crate::plan::*;
+use crate::reader::Refusal;
+
+/// A text, and its refusal; `None` for a plan without fault.
+pub type Stated = (Vec<u8>, Option<Refusal>);
+
+/// A text with spaces for tabs and `;` for line feeds.
+fn stated(text: &str, refusal: Option<Refusal>) -> Stated {
+    (text.replace(' ', "\t").replace(';', "\n").into_bytes(), refusal)
+}
+
+fn ranged(before: &str, after: &str, line: usize, allowed: &[i64], beyond: &[i64]) -> Vec<Stated> {
+    let good = allowed.iter().map(|number| stated(&format!("{before}{number}{after}"), None));
+    let bad = beyond.iter().map(|number| stated(&format!("{before}{number}{after}"), Some((4, line))));
+    good.chain(bad).collect()
+}
+
+/// Every number of every line at its least and greatest value, and beyond.
+pub fn numbers() -> Vec<Stated> {
+    let far = [-9_999_999, -100_001, 100_001, 9_999_999];
+    let ends = [-100_000, -99_999, -1, 0, 1, 99_999, 100_000];
+    [
+        ranged("events ", " 9;", 1, &[1, 2, 63, 64], &[0, -1, 65, 66, 9_999_999, -9_999_999]),
+        ranged("events 2 ", ";", 1, &[0, 1, 99_999, 100_000], &[-1, 100_001, 9_999_999, -9_999_999]),
+        ranged("events 5 9;rule ", " 0 0 1;", 2, &[1, 4], &[-1, 5, 6, 64, 9_999_999]),
+        ranged("events 5 9;rule 0 ", " 0 1;", 2, &[1, 4], &[-1, 5, 6, 64, 9_999_999]),
+        ranged("events 64 9;rule ", " 0 0 1;", 2, &[1, 62, 63], &[64, 65]),
+        ranged("events 64 9;wish 0 ", " 0 1;", 2, &[1, 62, 63], &[64, 65, -1]),
+        ranged("events 2 9;rule 0 1 ", " 100000;", 2, &ends, &far),
+        ranged("events 2 9;rule 0 1 -100000 ", ";", 2, &ends, &far),
+        ranged("events 2 9;rule 0 1 5 ", ";", 2, &[5, 6], &[4, -5]),
+        ranged("events 2 9;rule 0 1 ", " -5;", 2, &[-5, -6], &[-4, 5]),
+        ranged("events 5 9;wish ", " 0 0 1;", 2, &[1, 4], &[-1, 5, 6, 9_999_999]),
+        ranged("events 2 9;wish 0 1 ", " 7;", 2, &ends, &far),
+        // A wish of three levels ends two ticks after its lo.
+        ranged("events 2 9;wish 0 1 ", " 1 2 3;", 2, &[-100_000, 99_998], &[-100_001, 99_999, 100_000]),
+        ranged("events 2 9;wish 0 1 0 ", ";", 2, &[0, 1, 14, 15], &[-1, 16, 17, 9_999_999, -9_999_999]),
+        ranged("events 2 9;wish 0 1 0 3 ", " 3;", 2, &[3, 4, 15], &[-1, 16, 255, 256]),
+    ]
+    .concat()
+}
+
+fn rules(count: usize) -> Vec<Record> {
+    (0..count).map(|k| Record::rule(k % 63, 63, -(k as i64), 100_000 - k as i64)).collect()
+}
+
+/// Wishes with as many levels as the list says, 0 up to 15.
+fn wishes(counts: &[usize]) -> Vec<Record> {
+    let levels = |count: usize| (0..count).map(|i| (i * 16 / count) as u8).collect();
+    counts.iter().enumerate().map(|(k, &count)| Record::wish(63, k % 63, -(k as i64), levels(count))).collect()
+}
+
+/// Records, levels in one wish and levels together, at the limit and one past it.
+pub fn counts() -> Vec<Stated> {
+    let plan = |records: Vec<Record>, refusal| (Plan::new(64, 100_000).with(records).text(), refusal);
+    let mixed = |count: usize| [rules(count / 2), wishes(&vec![3; count - count / 2])].concat();
+    vec![
+        plan(rules(255), None),
+        plan(rules(256), None),
+        plan(rules(257), Some((3, 258))),
+        plan(rules(300), Some((3, 258))),
+        plan(wishes(&[1; 256]), None),
+        plan(wishes(&[1; 257]), Some((3, 258))),
+        plan(mixed(256), None),
+        plan(mixed(257), Some((3, 258))),
+        plan(wishes(&[255]), None),
+        plan(wishes(&[256]), None),
+        plan(wishes(&[257]), Some((3, 2))),
+        plan(wishes(&[1, 256, 257]), Some((3, 4))),
+        plan(wishes(&[256; 32]), None),
+        plan(wishes(&[32; 256]), None),
+        plan(wishes(&[&[256; 32][..], &[1]].concat()), Some((3, 34))),
+        plan(wishes(&[&[256; 31][..], &[255, 1]].concat()), None),
+        plan(wishes(&[&[256; 31][..], &[255, 2]].concat()), Some((3, 34))),
+        plan(wishes(&[&[256; 31][..], &[255, 1, 1]].concat()), Some((3, 35))),
+        plan(wishes(&[&[32; 255][..], &[33]].concat()), Some((3, 257))),
+        plan([wishes(&[256; 32]), rules(224)].concat(), None),
+        plan([wishes(&[256; 32]), rules(225)].concat(), Some((3, 258))),
+    ]
+}
+
+/// Texts of a given length: none so long is without fault; up to 60,000 bytes the fault is one further down.
+pub fn lengths() -> Vec<Stated> {
+    let mut texts = Vec::new();
+    for length in [59_999, 60_000, 60_001, 60_002, 100_000, 1_000_000] {
+        let refusal = |number, line| Some(if length > MOST_BYTES { (3, 0) } else { (number, line) });
+        texts.push((filled("events\t2\t", "0", length), refusal(2, 1)));
+        texts.push((filled("", "\n", length), refusal(2, 1)));
+        texts.push((filled("events\t2\t9\n", "rule\t0\t1\t0\t5\n", length), refusal(3, 258)));
+        // Two bytes a level: the length of lo makes the rest even.
+        let low = if length % 2 == 0 { "-10" } else { "10" };
+        let levels = filled(&format!("events\t2\t9\nwish\t0\t1\t{low}"), "\t1", length - 1);
+        texts.push((levels.iter().chain(b"1").copied().collect(), refusal(2, 2)));
+        texts.push((levels.iter().chain(b"\n").copied().collect(), refusal(3, 2)));
+    }
+    texts
+}
+
+/// `front`, then `piece` again and again, up to `length` bytes; the last piece may be cut.
+fn filled(front: &str, piece: &str, length: usize) -> Vec<u8> {
+    front.bytes().chain(piece.bytes().cycle()).take(length).collect()
+}
+
+/// Forms that are and are not those of section 2.
+pub fn forms() -> Vec<Stated> {
+    let right =
+        ["events 1 0;", "events 2 9;rule 0 1 -5 0;", "events 2 9;wish 1 0 -3 0;", "events 2 9;wish 0 1 0 0 0 0;"];
+    let wrong_first = [
+        "", ";", ";;", "events 2 9", "events;", "events 2;", "events 2 9 9;", "events 2 9 ;", "events  2 9;",
+        " events 2 9;", "rule 0 1 0 5;", "wish 0 1 0 5;", "Events 2 9;", "EVENTS 2 9;", "event 2 9;", "eventss 2 9;",
+        "events 02 9;", "events +2 9;", "events 2 -0;", "events 2 00;", "events 2 9\r;", "events 00000002 9;",
+        "events 2 10000000;", "events two 9;", "events 2 9\0;", "\0events 2 9;", "events 2 9.;", "events - 9;",
+        "events -- 9;", "x", "events",
+    ];
+    let wrong_later = [
+        ";", "events 2 9;", "rule;", "rule 0 1 0;", "rule 0 1 0 5 5;", "rule 0 1 0 5 ;", "rule 0 1  5;",
+        " rule 0 1 0 5;", "Rule 0 1 0 5;", "RULE 0 1 0 5;", "rules 0 1 0 5;", "rul 0 1 0 5;", "rule 0 1 0 5",
+        "rule 0 1 0 5\r;", "rule 0 1 -0 5;", "rule 0 1 +0 5;", "rule 0 1 0 05;", "rule 0 01 0 5;",
+        "rule 0 1 0 12345678;", "rule 0 1 -12345678 5;", "rule 0 1 0 5x;", "rule 0 1 0 x5;", "rule 0 1 - 5;",
+        "rule 0 1 0 5-;", "wish;", "wish 0 1;", "wish 0 1 0;", "wish 0 1 0 ;", "wish 0 1 0 1 ;", "wish 0 1 0  1;",
+        "Wish 0 1 0 1;", "WISH 0 1 0 1;", "wish 0 1 0 1", "wish 0 1 0 01;", "wish 0 1 0 -0;", "wish 0 1 0 +1;",
+        "wish 0 1 0 1\r;", "wish 0 1 0 1 x;", "curve 0 1 0 1;", "#;", "rule", "\0;", "x",
+    ];
+    let right = right.iter().map(|text| stated(text, None));
+    let first = wrong_first.iter().map(|text| stated(text, Some((2, 1))));
+    let later = wrong_later.iter().flat_map(|line| {
+        let second = stated(&format!("events 2 9;{line}"), Some((2, 2)));
+        let third = stated(&format!("events 2 9;rule 0 1 0 5;{line}"), Some((2, 3)));
+        // A fault further down changes nothing.
+        let doubled = line.ends_with(';').then(|| stated(&format!("events 2 9;{line}wish 0 0 0 2 1 2;"), Some((2, 2))));
+        [Some(second), Some(third), doubled].into_iter().flatten()
+    });
+    right.chain(first).chain(later).collect()
+}
+
+/// A wish line with any of the faults 2 to 6 at once: bit f of `faults` asks for fault f.
+fn faulty_wish(faults: u32) -> String {
+    let has = |fault: u32| faults & (1 << fault) != 0;
+    let mut levels = if has(6) { vec!["2", "1", "2"] } else { vec!["1", "2", "2", "1"] };
+    if has(3) {
+        levels.resize(257, "1");
+    }
+    if has(2) {
+        levels.push("x");
+    }
+    let end = if has(5) { 0 } else { 1 };
+    let low = if has(4) { 100_001 } else { -7 };
+    format!("wish 0 {end} {low} {};", levels.join(" "))
+}
+
+/// Two lines with every set of faults each: the first line at fault is reported, and in it the first fault in order.
+pub fn orders() -> Vec<Stated> {
+    let first_fault = |faults: u32, line| (faults != 0).then(|| (faults.trailing_zeros() as u8, line));
+    let sets: Vec<u32> = (0..32).map(|set| set << 2).collect();
+    let mut texts = Vec::new();
+    for &upper in &sets {
+        for &lower in &sets {
+            let text = format!("events 2 9;{}{}", faulty_wish(upper), faulty_wish(lower));
+            texts.push(stated(&text, first_fault(upper, 2).or(first_fault(lower, 3))));
+        }
+    }
+    texts.extend([
+        stated("events 2 9;rule 1 1 5 4;", Some((4, 2))),
+        stated("events 2 9;rule 1 1 4 5;", Some((5, 2))),
+        stated("events 1 9;rule 0 0 4 5;", Some((5, 2))),
+        stated("events 1 9;rule 0 1 4 5;", Some((4, 2))),
+        stated("events 65 9;rule 1 1 4 5;", Some((4, 1))),
+        stated("events 65 9;rule 1 1 4", Some((4, 1))),
+    ]);
+    texts.extend(past_the_records());
+    texts
+}
+
+/// A 257th line: its form comes before its being one too many, and that before its other faults.
+fn past_the_records() -> Vec<Stated> {
+    let full = Plan::new(64, 9).with(rules(256)).text();
+    let with = |line: &str, refusal| ([full.clone(), stated(line, None).0].concat(), Some(refusal));
+    vec![
+        with("rule 0 1 5 4;", (3, 258)),
+        with("rule 0 0 4 5;", (3, 258)),
+        with("rule 0 1 0 1;", (3, 258)),
+        with("rule 0 1 0 1", (2, 258)),
+        with("rule 0 1 0;", (2, 258)),
+        with("wish 0 1 0 2 1 2;", (3, 258)),
+        with("wish 0 1 0;", (2, 258)),
+        with("events 2 9;", (2, 258)),
+        with(";", (2, 258)),
+        with("x", (2, 258)),
+    ]
+}
+
+/// Rows of levels and whether they are single-peaked, by the words of section 4: every row of up to six levels from 0 to 3.
+pub fn level_rows() -> Vec<(Vec<u8>, bool)> {
+    let mut rows: Vec<Vec<u8>> = vec![vec![]];
+    let mut first = 0;
+    for _ in 0..6 {
+        let last = rows.len();
+        for row in first..last {
+            rows.extend((0..4).map(|level| [&rows[row][..], &[level]].concat()).collect::<Vec<_>>());
+        }
+        first = last;
+    }
+    rows[1..].iter().map(|row| (row.clone(), (1..=15).all(|grade| one_run(row, grade)))).collect()
+}
+
+/// The distances at this grade or more are one unbroken run, or none.
+fn one_run(levels: &[u8], grade: u8) -> bool {
+    let at: Vec<usize> = (0..levels.len()).filter(|&i| levels[i] >= grade).collect();
+    at.windows(2).all(|pair| pair[0] + 1 == pair[1])
+}

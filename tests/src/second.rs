@@ -1,0 +1,63 @@
+//! A second solver: every question of the ladder (document 01, section 6) is put by Bellman-Ford afresh.
+use crate::bounds::bounds;
+use crate::plan::{Plan, Record};
+
+pub struct Solution {
+    pub times: Vec<i64>,
+    pub levels: Vec<u8>,
+}
+
+/// The best timetable with the least times, or none where there is no timetable.
+pub fn solve(plan: &Plan) -> Option<Solution> {
+    let mut cut = Plan { records: plan.records.iter().map(whole_span).collect(), ..*plan };
+    earliest(&cut)?;
+    for grade in 1..=15 {
+        for (number, wish) in plan.wishes() {
+            let Some(cut_wish) = at_grade(wish, grade) else { continue };
+            let before = std::mem::replace(&mut cut.records[number], cut_wish);
+            if earliest(&cut).is_none() {
+                cut.records[number] = before;
+            }
+        }
+    }
+    let times = earliest(&cut)?;
+    let levels = plan.wishes().map(|(_, wish)| level(wish, &times)).collect();
+    Some(Solution { times, levels })
+}
+
+/// A record as a rule over all its distances.
+fn whole_span(record: &Record) -> Record {
+    Record::rule(record.start, record.end, record.low, record.high())
+}
+
+/// A wish as a rule over its distances at this grade or more, where it has some.
+fn at_grade(wish: &Record, grade: u8) -> Option<Record> {
+    let first = wish.levels().iter().position(|&level| level >= grade)?;
+    let last = wish.levels().iter().rposition(|&level| level >= grade)?;
+    Some(Record::rule(wish.start, wish.end, wish.low + first as i64, wish.low + last as i64))
+}
+
+/// The least time of each event: start at 0 and delay events until every bound holds. More rounds than events mean that
+/// the bounds chase each other for ever.
+fn earliest(plan: &Plan) -> Option<Vec<i64>> {
+    let bounds = bounds(plan);
+    let mut times = vec![0; plan.events];
+    for _ in 0..=plan.events {
+        let mut still = true;
+        for bound in &bounds {
+            let least = times[bound.end] - bound.weight;
+            if times[bound.start] < least {
+                times[bound.start] = least;
+                still = false;
+            }
+        }
+        if still {
+            return Some(times);
+        }
+    }
+    None
+}
+
+fn level(wish: &Record, times: &[i64]) -> u8 {
+    wish.levels()[(times[wish.end] - times[wish.start] - wish.low) as usize]
+}
