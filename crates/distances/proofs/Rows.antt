@@ -12,7 +12,8 @@ use lib.Seq.{ext-getD}
 use lib.Signed.{_≤ℤ_, ltZ}
 use borrow.Author.Count.{below-more}
 use Rattle.ticks.specs.Min.{minZ}
-use Rattle.ticks.proofs.Ticks.{ticks}
+use Rattle.ticks.proofs.Ticks.{ticks, ltZ-false}
+use Rattle.meaning.specs.Distances.{Closed}
 use Rattle.distances.specs.Matrix.{STRIDE, ENTRIES, at, added, Changed}
 use Rattle.distances.specs.Sweep.{Swept}
 use Rattle.distances.specs.Rows.{lowered}
@@ -80,6 +81,15 @@ one-more {a = a} {w = w} few l h s =
 -- x is at most y + v, and s is not below y: x is at most s + v
 pub row-kept : (x y v s : ℤ) → x ≤ℤ (y +ℤ v) → ltZ s y ≡ false → x ≡ minZ x (s +ℤ v)
 row-kept x y v s h t = omega ticks
+
+-- a bound that a closed matrix keeps already changes nothing
+pub kept-already : {n : ℕ} {d : List ℤ} (a b : ℕ) (w : ℤ) → Closed n (at d) → a < n → b < n → ltZ w (at d a b) ≡ false → Changed n n d d (added (at d) a b w)
+kept-already {d = d} a b w c la lb e = record {
+  long = refl;
+  done = λ i j p q. omega (ticks, ltZ-false w (at d a b), c .tri p la lb, c .tri p lb q);
+  beside = λ i j p q r. refl;
+  rest = λ k l. refl;
+}
 
 -- an entry stands in a row and a column: what was written and what was kept leave one result only
 pub one-result : {n : ℕ} {d d₁ d₂ : List ℤ} {f : ℕ → ℕ → ℤ} → length d ≡ ENTRIES → n ≤ STRIDE → Changed n n d d₁ f → Changed n n d d₂ f → d₁ ≡ d₂

@@ -98,6 +98,16 @@ fn insert(d: &mut [i32], n: usize, a: usize, b: usize, w: i32)
     }
 }
 
+// The same; a bound that the matrix keeps already changes no row, and most do not once a plan is narrow.
+fn tighten(d: &mut [i32], n: usize, a: usize, b: usize, w: i32)
+    requires { ⌜ Adding n a b w (now d) ⌝ }
+    ensures { λ _. ⌜ Changed n n (now (d .entry)) (now (d .exit)) (added (at (now (d .entry))) a b w) ⌝ }
+{
+    if ticks::less(w, distance(d, a, b)) {
+        insert(d, n, a, b, w);
+    }
+}
+
 // One more bound, t(b) − t(a) ≤ w; false, and nothing is written, where it leaves no timetable.
 pub fn add(d: &mut [i32], n: usize, a: usize, b: usize, w: i32) -> bool
     requires { ⌜ Adding n a b w (now d) ⌝ }
@@ -105,7 +115,7 @@ pub fn add(d: &mut [i32], n: usize, a: usize, b: usize, w: i32) -> bool
 {
     let s = ticks::plus(distance(d, b, a), w);
     if ticks::at_most(0, s) {
-        insert(d, n, a, b, w);
+        tighten(d, n, a, b, w);
         return true;
     }
     false
@@ -135,8 +145,8 @@ pub fn narrow(d: &mut [i32], n: usize, a: usize, b: usize, lo: i32, hi: i32) -> 
 {
     if meets(d, n, a, b, lo, hi) {
         let down = ticks::minus(lo);
-        insert(d, n, a, b, hi);
-        insert(d, n, b, a, down);
+        tighten(d, n, a, b, hi);
+        tighten(d, n, b, a, down);
         return true;
     }
     false

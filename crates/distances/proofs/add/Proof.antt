@@ -35,8 +35,8 @@ test c =
     let sum = rw (e .ensures) at (simp (back w32 (e .result) (e .ok), toZ-ofZ (c .before .before .before .before .fits .w)) at (p .ensures)) in
     rw (back w32 (p .result) (p .ok), sum) at (c .at-most .ensures)
 
-insert-requires : tie.Need-insert-requires
-insert-requires c κs =
+tighten-requires : tie.Need-tighten-requires
+tighten-requires c κs =
     let s = c .before .before .before .before .before .before in
     rw (toZ-ofZ (s .fits .w)) (s .pre)
 
@@ -48,7 +48,7 @@ returns c =
     let t = c .before .before .before in
     let s = t .before .before .before .before .before in
     let p = s .pre in
-    let changed = rw (toZ-ofZ (s .fits .w)) at (c .before .insert .ensures) in
+    let changed = rw (toZ-ofZ (s .fits .w)) at (c .before .tighten .ensures) in
     let ok = sym (t .if1 .taken) ∙ test (t .before) in
     record {
       answer = ok;
@@ -71,7 +71,7 @@ add-spec =
     distance-requires
     plus-requires
     at-most-requires
-    insert-requires
+    tighten-requires
     same-length
     returns
     same-length-2
