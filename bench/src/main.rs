@@ -1,7 +1,7 @@
 //! Times of the proved libraries beside plain Rust programs, in one run. Nothing is asserted about time.
 mod afresh;
 
-use afresh::{BellmanFord, FloydWarshall, Question};
+use afresh::{BellmanFord, FloydWarshall};
 use outside::chance::Chance;
 use outside::generate::{self, Shape};
 use outside::library::{plan, solver};
@@ -13,8 +13,6 @@ use std::time::{Duration, Instant};
 const PLANS: usize = 200;
 /// Floyd-Warshall afresh is slow: it gets fewer plans.
 const FEW_PLANS: usize = 10;
-/// Each time is the middle one of so many.
-const ROUNDS: usize = 9;
 
 fn main() {
     let cores = std::thread::available_parallelism().map_or(0, |cores| cores.get());
@@ -43,9 +41,8 @@ fn reading() {
     let text = full_text();
     let mut levels = [0; plan::LEVELS_AREA];
     assert!(plan::number(&text, &mut levels) == 0 && read(&text).is_ok(), "both readers take the text");
-    const TIMES: u32 = 200;
-    let library = middle(|| (0..TIMES).for_each(|_| keep(plan::number(black_box(&text), &mut levels)))) / TIMES;
-    let plain = middle(|| (0..TIMES).for_each(|_| keep(read(black_box(&text))))) / TIMES;
+    let library = least(2_000, || plan::number(black_box(&text), &mut levels));
+    let plain = least(2_000, || read(black_box(&text)));
     println!("reading a full text of {} bytes:", text.len());
     println!("  library {library:.1?}, plain Rust reader {plain:.1?}: {:.2} of its time", ratio(library, plain));
 }
@@ -53,18 +50,22 @@ fn reading() {
 /// Plans with as many events and records as are allowed, most of them wishes, each with a timetable.
 fn plans() -> Vec<Plan> {
     let mut chance = Chance::new(32);
-    let shape = |chance: &mut Chance| Shape {
-        events: 64,
-        horizon: 100_000,
-        records: 256,
-        wishes: 100,
-        levels: *chance.pick(&[32, 48, 62]),
-        heights: &[15],
-        slack: 1_000,
-        moved: 0,
-        moved_by: 0,
-    };
-    (0..PLANS).map(|_| shape(&mut chance)).collect::<Vec<_>>().iter().map(|s| generate::plan(&mut chance, s)).collect()
+    let mut plans = Vec::new();
+    for _ in 0..PLANS {
+        let shape = Shape {
+            events: 64,
+            horizon: 100_000,
+            records: 256,
+            wishes: 100,
+            levels: *chance.pick(&[32, 48, 62]),
+            heights: &[15],
+            slack: 1_000,
+            moved: 0,
+            moved_by: 0,
+        };
+        plans.push(generate::plan(&mut chance, &shape));
+    }
+    plans
 }
 
 fn climbing() {
@@ -73,20 +74,25 @@ fn climbing() {
     let questions: usize = plans.iter().zip(&texts).map(|(plan, text)| agree(plan, text)).sum();
     let bytes: usize = texts.iter().map(Vec::len).sum();
     println!(
-        "{PLANS} plans of 64 events and 256 records ({} bytes and {} questions a plan):",
+        "{PLANS} plans of 64 events and 256 records, a plan ({} bytes, {} questions):",
         bytes / PLANS,
         questions / PLANS
     );
-    let library = library_times(&texts);
-    println!("  library: reading {:.1?} a plan, climbing {:.1?} a plan (solving less reading)", library.0, library.1);
-    let few = library_times(&texts[..FEW_PLANS]);
-    report("Bellman-Ford afresh", afresh_time(&plans, &mut BellmanFord), library.1);
-    let name = format!("Floyd-Warshall afresh (the first {FEW_PLANS} plans)");
-    report(&name, afresh_time(&plans[..FEW_PLANS], &mut FloydWarshall::new()), few.1);
+    let (reading, climbing) = library_times(&texts);
+    println!("  library: reading {reading:.1?}, climbing {climbing:.1?} (solving less reading)");
+    let afresh = mean(&plans, 3, |plan| afresh::solve(plan, &mut BellmanFord));
+    report("Bellman-Ford afresh", afresh, climbing);
+    let mut floyd_warshall = FloydWarshall::new();
+    let afresh = mean(&plans[..FEW_PLANS], 2, |plan| afresh::solve(plan, &mut floyd_warshall));
+    report(
+        &format!("Floyd-Warshall afresh (the first {FEW_PLANS} plans)"),
+        afresh,
+        library_times(&texts[..FEW_PLANS]).1,
+    );
 }
 
 fn report(name: &str, time: Duration, library: Duration) {
-    println!("  {name}: {time:.1?} a plan; the library climbs in 1/{:.0} of that", ratio(time, library));
+    println!("  {name}: {time:.1?}; the library climbs in 1/{:.1} of that", ratio(time, library));
 }
 
 /// The library and Bellman-Ford give the same; returns the number of questions.
@@ -102,34 +108,25 @@ fn agree(plan: &Plan, text: &[u8]) -> usize {
 fn library_times(texts: &[Vec<u8>]) -> (Duration, Duration) {
     let mut area = [0; plan::LEVELS_AREA];
     let (mut times, mut levels, mut chain) = ([0; 64], [0; 256], [0; 64]);
-    let count = texts.len() as u32;
-    let read = middle(|| texts.iter().for_each(|text| keep(plan::number(text, &mut area))));
-    let all = middle(|| texts.iter().for_each(|text| keep(solver::solve(text, &mut times, &mut levels, &mut chain))));
-    (read / count, all.saturating_sub(read) / count)
+    let reading = mean(texts, 9, |text| plan::number(text, &mut area));
+    let solving = mean(texts, 9, |text| solver::solve(text, &mut times, &mut levels, &mut chain));
+    (reading, solving.saturating_sub(reading))
 }
 
-fn afresh_time(plans: &[Plan], question: &mut impl Question) -> Duration {
-    let start = Instant::now();
-    plans.iter().for_each(|plan| keep(afresh::solve(plan, question)));
-    start.elapsed() / plans.len() as u32
+/// The mean over things of the least time that the work on one takes.
+fn mean<A, B>(things: &[A], rounds: usize, mut work: impl FnMut(&A) -> B) -> Duration {
+    let sum: Duration = things.iter().map(|thing| least(rounds, || work(black_box(thing)))).sum();
+    sum / things.len() as u32
 }
 
-/// The work is done even though nobody looks at it.
-fn keep<T>(done: T) {
-    black_box(done);
-}
-
-/// The middle one of several times.
-fn middle(mut work: impl FnMut()) -> Duration {
-    let mut times: Vec<Duration> = (0..ROUNDS)
-        .map(|_| {
-            let start = Instant::now();
-            work();
-            start.elapsed()
-        })
-        .collect();
-    times.sort();
-    times[ROUNDS / 2]
+/// The least of several times: whatever else the machine does only adds.
+fn least<B>(rounds: usize, mut work: impl FnMut() -> B) -> Duration {
+    let once = || {
+        let start = Instant::now();
+        black_box(work());
+        start.elapsed()
+    };
+    std::iter::repeat_with(once).take(rounds).min().unwrap_or_default()
 }
 
 fn ratio(one: Duration, other: Duration) -> f64 {

@@ -55,15 +55,15 @@ pub fn full_shape(chance: &mut Chance) -> Shape {
     }
 }
 
-/// So small that all its timetables can be listed.
+/// So small that all its timetables can be listed, with wishes that compete.
 pub fn small_shape(chance: &mut Chance) -> Shape {
     Shape {
         events: 1 + chance.below(5),
         horizon: chance.between(0, 6),
-        records: chance.below(7),
-        wishes: *chance.pick(&[0, 50, 100]),
-        levels: 1 + chance.below(6),
-        heights: HEIGHTS,
+        records: chance.below(8),
+        wishes: *chance.pick(&[0, 60, 100, 100]),
+        levels: *chance.pick(&[1, 3, 6, 12]),
+        heights: &[1, 2, 3, 5, 15],
         slack: chance.between(0, 6),
         moved: *chance.pick(&[0, 200, 600]),
         moved_by: chance.between(1, 4),

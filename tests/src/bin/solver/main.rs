@@ -17,8 +17,8 @@ use outside::{damage, exhaustive, known};
 use std::process::ExitCode;
 
 fn main() -> ExitCode {
-    if let Some(kilobytes) = stack::asked() {
-        return stack::solve_full_plan(kilobytes);
+    if let Some((kind, kilobytes)) = stack::asked() {
+        return stack::solve(&kind, kilobytes);
     }
     let mut tally = Tally::default();
     tally.group("known plans", |group| known_plans(group, known::cases()));
@@ -31,7 +31,7 @@ fn main() -> ExitCode {
     tally.group("random full plans", |group| full_plans(group, 150));
     tally.group("paths through all events", paths);
     tally.group("damaged texts", |group| damaged_texts(group, 8_000));
-    tally.group("a full plan in a thread with a stack of 64 KB", stack::small_stack);
+    tally.group("full plans in a thread with a stack of 64 KB", stack::small_stack);
     tally.group("the program timetable", program::printed_forms);
     tally.group("the C example", example::c_program);
     tally.finish()
@@ -84,8 +84,8 @@ fn all_lengths() -> Vec<Lengths> {
     all
 }
 
-/// 64 events, 256 records, nearly all of them wishes.
-pub fn full_plan() -> Vec<u8> {
+/// 64 events, 256 records, nearly all of them wishes; `moved` of a thousand are out of place.
+fn full_plan_with(moved: usize) -> Vec<u8> {
     let shape = Shape {
         events: 64,
         horizon: 5_000,
@@ -94,10 +94,18 @@ pub fn full_plan() -> Vec<u8> {
         levels: 60,
         heights: &[15],
         slack: 500,
-        moved: 0,
-        moved_by: 0,
+        moved,
+        moved_by: 1_000,
     };
     generate::plan(&mut Chance::new(64), &shape).text()
+}
+
+fn full_plan() -> Vec<u8> {
+    full_plan_with(0)
+}
+
+fn full_plan_without_timetable() -> Vec<u8> {
+    full_plan_with(20)
 }
 
 fn small_plans(group: &mut Group, count: usize) {

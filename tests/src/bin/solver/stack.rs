@@ -1,54 +1,83 @@
-//! A full plan solved in a thread whose whole stack is small. A stack that is too small ends the process, so another one is
-//! started for it.
-use crate::full_plan;
+//! Full plans solved in a thread whose whole stack is small. A stack that is too small ends the process, so another one is
+//! started for each.
+use crate::{full_plan, full_plan_without_timetable};
+use outside::bounds::check_chain;
 use outside::library::solver as library;
 use outside::reader::read;
 use outside::second;
-use outside::tally::Group;
+use outside::tally::{same, Group};
 use std::process::{Command, ExitCode};
 
 const WORD: &str = "stack";
 const KILOBYTES: usize = 64;
 
-/// The size of the stack, where this process was started for that.
-pub fn asked() -> Option<usize> {
+/// The kinds of plans that are tried.
+const KINDS: [&str; 2] = ["solved", "none"];
+
+/// The kind and the size of the stack, where this process was started for that.
+pub fn asked() -> Option<(String, usize)> {
     let words: Vec<String> = std::env::args().collect();
     match words.get(1..) {
-        Some([word, kilobytes]) if word == WORD => kilobytes.parse().ok(),
+        Some([word, kind, kilobytes]) if word == WORD => Some((kind.clone(), kilobytes.parse().ok()?)),
         _ => None,
     }
 }
 
 pub fn small_stack(group: &mut Group) {
-    group.case(&full_plan(), run_again());
+    for kind in KINDS {
+        group.case(&text_of(kind), run_again(kind).map(|()| kind.to_string()));
+    }
 }
 
-fn run_again() -> Result<String, String> {
+fn text_of(kind: &str) -> Vec<u8> {
+    if kind == KINDS[0] {
+        full_plan()
+    } else {
+        full_plan_without_timetable()
+    }
+}
+
+fn run_again(kind: &str) -> Result<(), String> {
     let this = std::env::current_exe().map_err(|error| error.to_string())?;
-    let done = Command::new(this).args([WORD, &KILOBYTES.to_string()]).output().map_err(|error| error.to_string())?;
+    let run = Command::new(this).args([WORD, kind, &KILOBYTES.to_string()]).output();
+    let done = run.map_err(|error| error.to_string())?;
     if done.status.success() {
-        Ok("solved".into())
+        Ok(())
     } else {
         Err(format!("{}: {}", done.status, String::from_utf8_lossy(&done.stderr)))
     }
 }
 
+/// What that other process does.
+pub fn solve(kind: &str, kilobytes: usize) -> ExitCode {
+    match solve_in_thread(text_of(kind), kilobytes) {
+        Ok(()) => ExitCode::SUCCESS,
+        Err(why) => {
+            eprintln!("in a stack of {kilobytes} KB: {why}");
+            ExitCode::FAILURE
+        }
+    }
+}
+
 /// The stack also holds the thread's own block (some 4 KB); its guard page lies beyond it. The areas are on the heap, and the
-/// second solver runs outside.
-pub fn solve_full_plan(kilobytes: usize) -> ExitCode {
-    let text = full_plan();
+/// outcome is checked outside.
+fn solve_in_thread(text: Vec<u8>, kilobytes: usize) -> Result<(), String> {
     let lent_text = text.clone();
     let (mut times, mut levels, mut chain) = (vec![0; 64], vec![0; 256], vec![0; 64]);
-    let solve = move || (library::solve(&lent_text, &mut times, &mut levels, &mut chain), times, levels);
-    let thread = std::thread::Builder::new().stack_size(kilobytes * 1024).spawn(solve);
-    let ((number, place), times, levels) = thread.expect("a thread").join().expect("the thread ends");
-    let right = read(&text).ok().and_then(|plan| second::solve(&plan)).expect("the full plan has a timetable");
-    let wishes = right.levels.len();
-    let same = (number, place) == (0, wishes) && times == right.times && levels[..wishes] == right.levels;
-    if same {
-        ExitCode::SUCCESS
-    } else {
-        eprintln!("the outcome differs in a stack of {kilobytes} KB");
-        ExitCode::FAILURE
+    let work = move || (library::solve(&lent_text, &mut times, &mut levels, &mut chain), times, levels, chain);
+    let thread = std::thread::Builder::new().stack_size(kilobytes * 1024).spawn(work);
+    let ended = thread.map_err(|error| error.to_string())?.join();
+    let ((number, place), times, levels, chain) = ended.map_err(|_| "the thread failed")?;
+    let plan = read(&text).map_err(|refusal| format!("refused {refusal:?}"))?;
+    match second::solve(&plan) {
+        Some(right) => {
+            same("number", 0, number)?;
+            same("times", right.times, times)?;
+            same("levels", &right.levels[..], &levels[..place])
+        }
+        None => {
+            same("number", 1, number)?;
+            check_chain(&plan, &chain[..place])
+        }
     }
 }
