@@ -98,43 +98,80 @@ impl Question for BellmanFord {
     }
 }
 
-/// All shortest distances between events.
+/// Further than any bound reaches, and small enough to be added twice.
+const FAR: i32 = 1_000_000_000;
+
+/// All shortest distances between events: three plain loops over a flat matrix.
 pub struct FloydWarshall {
-    distances: [[i32; MOST]; MOST],
+    distances: Vec<i32>,
+}
+
+/// The same with the row over which the others go held beside the matrix, so that the compiler can take many columns at once.
+pub struct FloydWarshallByRows {
+    distances: Vec<i32>,
 }
 
 impl FloydWarshall {
     pub fn new() -> FloydWarshall {
-        FloydWarshall { distances: [[0; MOST]; MOST] }
+        FloydWarshall { distances: vec![0; MOST * MOST] }
     }
 }
 
-/// Further than any bound reaches, and small enough to be added twice.
-const FAR: i32 = 1_000_000_000;
+impl FloydWarshallByRows {
+    pub fn new() -> FloydWarshallByRows {
+        FloydWarshallByRows { distances: vec![0; MOST * MOST] }
+    }
+}
 
 impl Question for FloydWarshall {
     fn put(&mut self, events: usize, bounds: &[Bound], times: &mut [i32; MOST]) -> bool {
         let d = &mut self.distances;
-        for (event, row) in d.iter_mut().enumerate() {
-            *row = [FAR; MOST];
-            row[event] = 0;
-        }
-        for bound in bounds {
-            let entry = &mut d[bound.start as usize % MOST][bound.end as usize % MOST];
-            *entry = bound.weight.min(*entry);
-        }
+        start(d, bounds);
         for over in 0..events {
-            let onward = d[over];
-            for row in d.iter_mut().take(events) {
+            for i in 0..events {
+                for j in 0..events {
+                    d[i * MOST + j] = d[i * MOST + j].min(d[i * MOST + over] + d[over * MOST + j]);
+                }
+            }
+        }
+        earliest(d, events, times)
+    }
+}
+
+impl Question for FloydWarshallByRows {
+    fn put(&mut self, events: usize, bounds: &[Bound], times: &mut [i32; MOST]) -> bool {
+        let d = &mut self.distances;
+        start(d, bounds);
+        let mut onward = [0; MOST];
+        for over in 0..events {
+            onward.copy_from_slice(&d[over * MOST..(over + 1) * MOST]);
+            for row in d.chunks_exact_mut(MOST).take(events) {
                 let first = row[over];
                 for (entry, second) in row.iter_mut().zip(&onward) {
                     *entry = (*entry).min(first + second);
                 }
             }
         }
-        for event in 0..events {
-            times[event] = -d[event][0];
-        }
-        (0..events).all(|event| d[event][event] == 0)
+        earliest(d, events, times)
     }
+}
+
+/// The bounds alone.
+fn start(d: &mut [i32], bounds: &[Bound]) {
+    d.fill(FAR);
+    for event in 0..MOST {
+        d[event * MOST + event] = 0;
+    }
+    for bound in bounds {
+        let entry = &mut d[bound.start as usize * MOST + bound.end as usize];
+        *entry = bound.weight.min(*entry);
+    }
+}
+
+/// The earliest times, and whether there are any.
+fn earliest(d: &[i32], events: usize, times: &mut [i32; MOST]) -> bool {
+    for event in 0..events {
+        times[event] = -d[event * MOST];
+    }
+    (0..events).all(|event| d[event * MOST + event] == 0)
 }

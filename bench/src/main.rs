@@ -1,7 +1,7 @@
 //! Times of the proved libraries beside plain Rust programs, in one run. Nothing is asserted about time.
 mod afresh;
 
-use afresh::{BellmanFord, FloydWarshall};
+use afresh::{BellmanFord, FloydWarshall, FloydWarshallByRows};
 use outside::chance::Chance;
 use outside::generate::{self, Shape};
 use outside::library::{plan, solver};
@@ -82,13 +82,12 @@ fn climbing() {
     println!("  library: reading {reading:.1?}, climbing {climbing:.1?} (solving less reading)");
     let afresh = mean(&plans, 3, |plan| afresh::solve(plan, &mut BellmanFord));
     report("Bellman-Ford afresh", afresh, climbing);
-    let mut floyd_warshall = FloydWarshall::new();
-    let afresh = mean(&plans[..FEW_PLANS], 2, |plan| afresh::solve(plan, &mut floyd_warshall));
-    report(
-        &format!("Floyd-Warshall afresh (the first {FEW_PLANS} plans)"),
-        afresh,
-        library_times(&texts[..FEW_PLANS]).1,
-    );
+    println!("  the first {FEW_PLANS} of them, since these opponents are slow:");
+    let (few, climbing) = (&plans[..FEW_PLANS], library_times(&texts[..FEW_PLANS]).1);
+    let mut plain = FloydWarshall::new();
+    report("Floyd-Warshall afresh", mean(few, 2, |plan| afresh::solve(plan, &mut plain)), climbing);
+    let mut by_rows = FloydWarshallByRows::new();
+    report("Floyd-Warshall afresh, by rows", mean(few, 2, |plan| afresh::solve(plan, &mut by_rows)), climbing);
 }
 
 fn report(name: &str, time: Duration, library: Duration) {
