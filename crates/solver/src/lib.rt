@@ -390,7 +390,8 @@ pub fn solve(text: &[u8], times: &mut [i64], levels: &mut [u8], chain: &mut [u16
     }
 }
 
-fn number_of(outcome: Outcome) -> u8
+// The number of document 01, section 3.
+pub fn number_of(outcome: Outcome) -> u8
     ensures { λ r. ⌜ r ≡ numberOf outcome ⌝ }
 {
     match outcome {
@@ -400,7 +401,8 @@ fn number_of(outcome: Outcome) -> u8
     }
 }
 
-fn place_in(outcome: Outcome) -> usize
+// The place that goes with it.
+pub fn place_in(outcome: Outcome) -> usize
     ensures { λ r. ⌜ r ≡ placeOf outcome ⌝ }
 {
     match outcome {

@@ -1,0 +1,116 @@
+-- The bound that a code names: what the rows of memory say of it, and that the bounds of a plan have names.
+use mathlib.Core.Path.{_≡_, refl, sym, ap, _∙_}
+use mathlib.Core.Logic.{_⊎_, inl, inr, ⊎-elim}
+use mathlib.Core.Bool.{Bool, true, false}
+use mathlib.Core.List.{List, [], _∷_, List·Memᴰ, List·Memᴰ·not-nil, List·Memᴰ·cases-cons, List·Memᴰ·append-cases}
+use Prim.Native.Nat.{ℕ, zero, suc, _+_, _*_, _-_, _/_, _%_, _≤_, _<_}
+use native.Mathlib.Omega.{arith}
+use borrow.Author.Tests.{eq-eqb, ne-eqb, lt-ltb, le-ltb, ltb-true, ltb-false}
+use lib.Dec.{ltb}
+use lib.IntN.{ℤ, pos, negℤ}
+use lib.ListN.{length, getD, List·getD-eq-default}
+use Rattle.meaning.specs.Plan as M
+use Rattle.meaning.specs.Plan.{nothing, recordAt}
+use Rattle.meaning.specs.Bounds.{Bound, upper, lower, horizonUpper, horizonLower, recordBounds, horizonBounds, bounds}
+use Rattle.meaning.proofs.Faultless.{WithoutFault}
+use Rattle.plan.specs.declared.Record.{Record}
+use Rattle.plan.specs.declared.Plan.{Plan}
+use Rattle.plan.specs.Held.{Holds, rowOf, rowsOf, blank}
+use Rattle.plan.proofs.Growth.{length-rows}
+use Rattle.solver.proofs.Memory.{held-row}
+use Rattle.report.specs.Printed.{named, ofRecord, ofHorizon}
+
+-- ---- a code and the record or the event that it names
+
+abbrev pub bound : ℕ → ℕ → ℤ → ℕ → Bound
+bound a b w c = record { start = a; end = b; weight = w; code = c }
+
+module _ (p : M.Plan) (c : ℕ) where
+  module _ (r : Record) (first : ℕ) (e : r ≡ rowOf first (recordAt p (c / 2))) where
+    pub name-upper : c % 2 ≡ 0 → bound (r .a) (r .b) (r .hi) c ≡ ofRecord p c
+    name-upper o = rw (eq-eqb (c % 2) 0 o, e) (ap (bound _ _ _) (omega arith))
+
+    pub name-lower : (c % 2 ≡ 0 → ⊥) → bound (r .b) (r .a) (negℤ (r .lo)) c ≡ ofRecord p c
+    name-lower o = rw (ne-eqb (c % 2) 0 o, e) (ap (bound _ _ _) (omega arith))
+
+  module _ (l : 512 ≤ c) where
+    pub name-latest : c % 2 ≡ 0 → bound 0 ((c - 512) / 2) (pos (p .horizon)) c ≡ ofHorizon p c
+    name-latest o = rw (eq-eqb (c % 2) 0 o) (ap (bound _ _ _) (omega arith))
+
+    pub name-earliest : (c % 2 ≡ 0 → ⊥) → bound ((c - 512) / 2) 0 (pos 0) c ≡ ofHorizon p c
+    name-earliest o = rw (ne-eqb (c % 2) 0 o) (ap (bound _ _ _) (omega arith))
+
+  pub name-record : c < 512 → named p c ≡ ofRecord p c
+  unfolding named
+  name-record l = rw (lt-ltb c 512 l)
+
+  pub name-horizon : 512 ≤ c → named p c ≡ ofHorizon p c
+  unfolding named
+  name-horizon l = rw (le-ltb c 512 l)
+
+-- ---- the row of a record: past the last one it is blank
+
+pub row-held : (p : M.Plan) (h : Plan) (k : ℕ) → Holds p h → (first : ℕ) × (getD (h .records) k blank ≡ rowOf first (recordAt p k))
+row-held p h k q = go (ltb k (length (p .records))) refl
+  where
+    go : (b : Bool) → ltb k (length (p .records)) ≡ b → (first : ℕ) × (getD (h .records) k blank ≡ rowOf first (recordAt p k))
+    go true e = (_, held-row q k (ltb-true k (length (p .records)) e))
+    go false e =
+        let l : length (p .records) ≤ k = ltb-false k (length (p .records)) e in
+        (0, q .rows k ∙ List·getD-eq-default (rowsOf 0 (p .records)) blank (omega (arith, length-rows 0 (p .records))) ∙ sym (ap (rowOf 0) (List·getD-eq-default (p .records) nothing l)))
+
+-- ---- the bounds of a plan have names
+
+module _ (p : M.Plan) (k : ℕ) where
+  module _ (l : k < 256) where
+    upper-named : named p (2 * k) ≡ upper k (recordAt p k)
+    upper-named = let q : (2 * k) / 2 ≡ k = omega arith in name-record p (2 * k) (omega arith) ∙ rw (eq-eqb ((2 * k) % 2) 0 (omega arith), q)
+
+    lower-named : named p (2 * k + 1) ≡ lower k (recordAt p k)
+    lower-named = let q : (2 * k + 1) / 2 ≡ k = omega arith in name-record p (2 * k + 1) (omega arith) ∙ rw (ne-eqb ((2 * k + 1) % 2) 0 (λ e. omega arith), q)
+
+  latest-named : named p (512 + 2 * k) ≡ horizonUpper (p .horizon) k
+  latest-named = let q : (512 + 2 * k - 512) / 2 ≡ k = omega arith in name-horizon p (512 + 2 * k) (omega arith) ∙ rw (eq-eqb ((512 + 2 * k) % 2) 0 (omega arith), q)
+
+  earliest-named : named p (513 + 2 * k) ≡ horizonLower k
+  earliest-named = let q : (513 + 2 * k - 512) / 2 ≡ k = omega arith in name-horizon p (513 + 2 * k) (omega arith) ∙ rw (ne-eqb ((513 + 2 * k) % 2) 0 (λ e. omega arith), q)
+
+module _ (p : M.Plan) (b : Bound) where
+  -- b is x, and x has its name
+  same-name : (x : Bound) → b ≡ x → named p (x .code) ≡ x → named p (b .code) ≡ b
+  same-name x e h = rw e h
+
+  records-named : (k : ℕ) (rs : List M.Record) → k + length rs ≤ 256 → ((i : ℕ) → i < length rs → getD rs i nothing ≡ recordAt p (k + i)) → List·Memᴰ b (recordBounds k rs) → named p (b .code) ≡ b
+  records-named k [] l f m = absurd (List·Memᴰ·not-nil m)
+  records-named k (r ∷ rs) l f m = first (List·Memᴰ·cases-cons m) (λ n. records-named (suc k) rs (omega arith) (λ i h. f (suc i) (omega arith) ∙ ap (recordAt p) (omega arith)) n)
+    where
+      here : r ≡ recordAt p k
+      here = f 0 (omega arith) ∙ ap (recordAt p) (omega arith)
+
+      second : (b ≡ lower k r) ⊎ List·Memᴰ b (recordBounds (suc k) rs) → (List·Memᴰ b (recordBounds (suc k) rs) → named p (b .code) ≡ b) → named p (b .code) ≡ b
+      second (inl e) g = same-name (lower k r) e (lower-named p k (omega arith) ∙ ap (lower k) (sym here))
+      second (inr n) g = g n
+
+      first : (b ≡ upper k r) ⊎ List·Memᴰ b (lower k r ∷ recordBounds (suc k) rs) → (List·Memᴰ b (recordBounds (suc k) rs) → named p (b .code) ≡ b) → named p (b .code) ≡ b
+      first (inl e) g = same-name (upper k r) e (upper-named p k (omega arith) ∙ ap (upper k) (sym here))
+      first (inr n) g = second (List·Memᴰ·cases-cons n) g
+
+  horizon-named : (e m : ℕ) → List·Memᴰ b (horizonBounds (p .horizon) e m) → named p (b .code) ≡ b
+  horizon-named e zero n = absurd (List·Memᴰ·not-nil n)
+  horizon-named e (suc m) n = first (List·Memᴰ·cases-cons n) (λ o. horizon-named (suc e) m o)
+    where
+      second : (b ≡ horizonLower e) ⊎ List·Memᴰ b (horizonBounds (p .horizon) (suc e) m) → (List·Memᴰ b (horizonBounds (p .horizon) (suc e) m) → named p (b .code) ≡ b) → named p (b .code) ≡ b
+      second (inl q) g = same-name (horizonLower e) q (earliest-named p e)
+      second (inr o) g = g o
+
+      first : (b ≡ horizonUpper (p .horizon) e) ⊎ List·Memᴰ b (horizonLower e ∷ horizonBounds (p .horizon) (suc e) m) → (List·Memᴰ b (horizonBounds (p .horizon) (suc e) m) → named p (b .code) ≡ b) → named p (b .code) ≡ b
+      first (inl q) g = same-name (horizonUpper (p .horizon) e) q (latest-named p e)
+      first (inr o) g = second (List·Memᴰ·cases-cons o) g
+
+-- what is printed for a code of a chain is the bound that has the code
+pub named-right : {p : M.Plan} → WithoutFault p → (b : Bound) → List·Memᴰ b (bounds p) → named p (b .code) ≡ b
+named-right {p} g b m =
+    ⊎-elim
+    (λ n. records-named p b 0 (p .records) (omega (arith, g .few)) (λ i h. ap (recordAt p) (omega arith)) n)
+    (λ n. horizon-named p b 1 (p .events - 1) n)
+    (List·Memᴰ·append-cases (recordBounds 0 (p .records)) m)

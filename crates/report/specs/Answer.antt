@@ -1,0 +1,24 @@
+-- What `answer` promises: the printed form of a right outcome at the front of the area, or nothing where the area is too short.
+use mathlib.Core.Path.{_≡_}
+use mathlib.Core.List.{List}
+use Prim.Native.Nat.{ℕ, _≤_, _<_}
+use lib.ListN.{length}
+use Rattle.meaning.specs.Reading.{read}
+use Rattle.meaning.specs.Outcome.{Outcome, Right, over}
+use Rattle.plan.specs.Held.{planIn}
+use Rattle.report.specs.Printed.{printed}
+
+-- one line `solved`, 64 lines `at` and 256 lines `level`, of at most 64 bytes each
+abbrev pub AREA : ℕ
+AREA = 20544
+
+-- all but the printed form keeps its old contents
+pub record Told (text before after : List ℕ) (r : ℕ) : Type 0 where
+  pub outcome : Outcome
+  pub right : Right (read text) outcome
+  pub count : r ≡ length (printed (planIn (read text)) outcome)
+  pub written : after ≡ over (printed (planIn (read text)) outcome) before
+
+pub record Answered (text before after : List ℕ) (r : ℕ) : Type 0 where
+  pub long : AREA ≤ length before → Told text before after r
+  pub short : length before < AREA → (r ≡ 0) × (after ≡ before)

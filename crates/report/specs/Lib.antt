@@ -1,0 +1,6 @@
+-- What the contracts of `report` cite.
+pub mod Printed
+pub mod Put
+pub mod Rows
+pub mod Answer
+pub mod Left
