@@ -9,3 +9,4 @@ pub mod Asks
 pub mod Stages
 pub mod Grades
 pub mod Settles
+pub mod Promised
