@@ -25,6 +25,8 @@ use plan::Record;
 // The bytes that a printed form has at most: a line `solved`, 64 lines `at` and 256 lines `level`, of at most 64 bytes each.
 pub const AREA: usize = 20544;
 
+const MOST_EVENTS: usize = plan::MOST_EVENTS as usize;
+
 // A number that is no larger than a `u32` can be.
 fn whole(n: usize) -> i64
     requires { ⌜ n < 4294967296 ⌝ }
@@ -285,9 +287,9 @@ pub fn answer(text: &[u8], out: &mut [u8]) -> usize
     if out.len() < AREA {
         return 0;
     }
-    let mut times = [0i64; 64];
-    let mut levels = [0u8; 256];
-    let mut chain = [0u16; 64];
+    let mut times = [0i64; MOST_EVENTS];
+    let mut levels = [0u8; plan::MOST_RECORDS];
+    let mut chain = [0u16; MOST_EVENTS];
     let o = solver::solve(text, &mut times, &mut levels, &mut chain);
     put_outcome(
         out,
