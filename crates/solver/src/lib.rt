@@ -13,7 +13,7 @@ ghost use Rattle.meaning.specs.Outcome.{Promise, areas};
 ghost use Rattle.meaning.proofs.Faultless.{WithoutFault};
 ghost use Rattle.plan.specs.Held.{Holds};
 ghost use Rattle.distances.specs.Matrix.{Adding, Added};
-ghost use Rattle.chain.specs.Clash.{boundOf, none, listed};
+ghost use Rattle.chain.specs.Clash.{boundOf, none, boundAt, listed};
 ghost use Rattle.solver.specs.Listed.{Planned, Listed};
 ghost use Rattle.solver.specs.Entries.{upperEntry, lowerEntry, Front, Appending};
 ghost use Rattle.solver.specs.Tried.{Trying, Tried};
@@ -182,17 +182,37 @@ fn try_bound(b: Bound, d: &mut [i32], n: usize) -> bool
     distances::add(d, n, event_of(b.start), event_of(b.end), b.weight)
 }
 
+// Adds the bound at place k.
+fn try_at(list: &[Bound], k: usize, d: &mut [i32], n: usize) -> bool
+    requires { ⌜ (k < length (now list)) × Adding n (boundAt (now list) k .start) (boundAt (now list) k .end) (boundAt (now list) k .weight) (now d) ⌝ }
+    ensures { λ r. ⌜ Added n (boundAt (now (list .entry)) k .start) (boundAt (now (list .entry)) k .end) (boundAt (now (list .entry)) k .weight) (now (d .entry)) (now (d .exit)) r ⌝ }
+{
+    let b = list[k];
+    try_bound(b, d, n)
+}
+
 // Adds the bounds from place `from` up to `to`; the place of the first that leaves no timetable, or `to`.
+fn try_listed(list: &[Bound], from: usize, to: usize, d: &mut [i32], n: usize) -> usize
+    requires { ⌜ Trying (now list) from to n (now d) ⌝ }
+    ensures { λ r. ⌜ Tried (now (list .entry)) from to n (now (d .entry)) (now (d .exit)) r ⌝ }
+{
+    let mut k = from;
+    while k < to {
+        if try_at(list, k, d, n) {
+            k += 1;
+        } else {
+            break;
+        }
+    }
+    k
+}
+
+// The same of an array: it is lent.
 pub fn try_all(list: [Bound; MOST_BOUNDS], from: usize, to: usize, d: &mut [i32], n: usize) -> usize
     requires { ⌜ Trying list from to n (now d) ⌝ }
     ensures { λ r. ⌜ Tried list from to n (now (d .entry)) (now (d .exit)) r ⌝ }
 {
-    for k in from..to {
-        if !try_bound(list[k], d, n) {
-            return k;
-        }
-    }
-    to
+    try_listed(&list, from, to, d, n)
 }
 
 // ---- the climb
