@@ -1,4 +1,5 @@
--- `solver::try_all` meets its contract: a walk of its MIR, by hand. The array is copied to a local and lent as a `&[Bound]` to `try_listed` for a lifetime μ; then its memory is freed. The matrix is handed on at its own lifetime, share and ghost name, so it is given up for good.
+-- `solver::try_all` meets its contract: a walk of its MIR, by hand. The array is copied to a local and lent as a `&[Bound]` for a lifetime μ of the
+-- call; then its memory is freed. The matrix is handed on at its own lifetime, share and ghost name, so it is given up for good.
 use mathlib.Core.Path.{_≡_, refl}
 use Prim.Native.Nat.{ℕ, _<_, _^_}
 use mathlib.Core.List.{List, [], _∷_}

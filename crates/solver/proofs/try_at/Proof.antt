@@ -1,4 +1,5 @@
--- `solver::try_at` meets its contract: a walk of its MIR, by hand. One bound is read through the shared slice, then `try_bound` is called with it; the matrix is handed on at its own lifetime, share and ghost name, so it is given up for good.
+-- `solver::try_at` meets its contract: a walk of its MIR, by hand. One bound is read through the shared slice, then `try_bound` is called with it;
+-- the matrix is handed on at its own lifetime, share and ghost name, so it is given up for good.
 use mathlib.Core.Path.{_≡_, refl, sym}
 use Prim.Native.Nat.{ℕ, _<_, _*_, _^_}
 use native.Mathlib.Omega.{arith}

@@ -1,4 +1,5 @@
--- `solver::try_listed` meets its contract: a walk of its MIR, by hand, with a loop. Each turn calls `try_at` with a copy of the list; the matrix is lent again for a lifetime of the call, and comes back. At place i the bounds up to i were added.
+-- `solver::try_listed` meets its contract: a walk of its MIR, by hand, with a loop. At place i the bounds up to i were added. Each turn calls
+-- `try_at` with a copy of the list; the matrix is lent again for a lifetime of the call, and comes back.
 use mathlib.Core.Path.{_≡_, refl, sym, ap}
 use Prim.Native.Nat.{ℕ, zero, suc, _+_, _-_, _<_, _^_}
 use native.Mathlib.Omega.{arith}
