@@ -1,16 +1,15 @@
 -- Closed distances: one more bound, the horizon alone, times that are attained, and one matrix for one set of timetables.
 -- Each fact is one call of `omega ticks` over the triangles that it needs; the latest side is the earliest of the turned matrix.
-use mathlib.Core.Path.{_≡_, refl, sym, ap, _∙_, subst}
-use mathlib.Core.Logic.{_⊎_, inl, inr, _↔_}
-use Prim.Native.Nat.{ℕ, zero, suc, _+_, _≤_, _<_}
+use mathlib.Core.Path.{_≡_, refl}
+use Prim.Native.Nat.{ℕ, _<_}
 use mathlib.Core.Bool.{Bool, true, false, cond}
 use native.Mathlib.Decide.{ℕ-discrete}
-use lib.Dec.{T, eqb, eqb-refl}
-use lib.IntN.{ℤ, pos, negsuc, negℤ, _+ℤ_, _-ℤ_}
+use lib.Dec.{eqb}
+use lib.IntN.{ℤ, pos, negℤ, _+ℤ_, _-ℤ_}
 use lib.Signed.{_≤ℤ_, _<ℤ_}
-use borrow.Author.Tests.{eqb-true, eqb-false, eq-eqb, ne-eqb}
+use borrow.Author.Tests.{eq-eqb, ne-eqb}
 use Rattle.ticks.specs.Min.{minZ}
-use Rattle.ticks.proofs.Ticks.{up, dn, ticks, neg, sum}
+use Rattle.ticks.proofs.Ticks.{ticks}
 use Rattle.meaning.specs.Distances.{Closed, Keeps, Adds, Below, horizonOnly, latest, earliest}
 
 abbrev pub Distances : Type 0

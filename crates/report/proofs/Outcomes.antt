@@ -13,7 +13,7 @@ use Rattle.meaning.specs.Plan.{Plan, MOST-EVENTS, MOST-RECORDS, MOST-BYTES, wis
 use Rattle.meaning.specs.Reading.{Reading, plan, refused, read}
 use Rattle.meaning.specs.Bounds.{Chain}
 use Rattle.meaning.specs.Known.{bytes}
-use Rattle.meaning.specs.Outcome.{Outcome, solved, none, refusal, Right, Solved, Areas, areas, longEnough, heard, over, at, written, number, place, Promise}
+use Rattle.meaning.specs.Outcome.{Outcome, solved, none, refusal, Right, Solved, Areas, areas, longEnough, over, at, written, number, place, Promise}
 use Rattle.meaning.proofs.Faultless.{WithoutFault}
 use Rattle.meaning.proofs.Levels.{levels-count}
 use Rattle.meaning.proofs.ReadGood.{read-faultless}
