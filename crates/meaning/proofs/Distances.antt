@@ -49,13 +49,6 @@ module _ {n a b : ℕ} {w : ℤ} {D D′ : Distances} (c : Closed n D) (la : a <
   pub adds-below : {H : ℕ} → Below n H D → Below n H D′
   adds-below {H} r = record { hi = λ {i} {j} p q. omega (ticks, e .at p q, r .hi p q) }
 
-  -- row b and column a stay
-  pub same-b : pos 0 ≤ℤ (D b a +ℤ w) → {j : ℕ} → j < n → D′ b j ≡ D b j
-  same-b m {j} q = omega (ticks, e .at lb q)
-
-  pub same-a : pos 0 ≤ℤ (D b a +ℤ w) → {i : ℕ} → i < n → D′ i a ≡ D i a
-  same-a m {i} p = omega (ticks, e .at p la)
-
 -- a row that the program passes over is as `Adds` asks
 pub skipped : {n b i j : ℕ} {D : Distances} (a : ℕ) (w : ℤ) → Closed n D → b < n → i < n → j < n → D i b ≤ℤ (D i a +ℤ w) → D i j ≡ minZ (D i j) ((D i a +ℤ w) +ℤ D b j)
 skipped a w c lb p q m = omega (ticks, c .tri p lb q)

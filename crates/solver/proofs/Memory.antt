@@ -32,15 +32,6 @@ rows-at (r ∷ rs) at (suc k) h =
 pub held-row : {p : M.Plan} {h : Plan} → Holds p h → (k : ℕ) → k < length (p .records) → getD (h .records) k blank ≡ rowOf (firstOf (p .records) k) (recordAt p k)
 held-row {p} o k l = o .rows k ∙ rows-at (p .records) 0 k l ∙ ap (λ n. rowOf n (recordAt p k)) (omega arith)
 
--- no more wishes than records
-pub wishes-few : (rs : List M.Record) → wishCount rs ≤ length rs
-wishes-few [] = omega arith
-wishes-few (M.rule a b lo hi ∷ rs) = omega (arith, wishes-few rs)
-wishes-few (M.wish a b lo ls ∷ rs) = omega (arith, wishes-few rs)
-
-pub wish-below : {a b : ℕ} {lo : ℤ} {ls : List ℕ} (rs : List M.Record) (k : ℕ) → k < length rs → getD rs k nothing ≡ M.wish a b lo ls → wishesBefore rs k < length rs
-wish-below rs k l e = omega (arith, wish-number rs k l e, wishes-few rs)
-
 -- ---- the levels of all wishes
 
 flat-both : (rs qs : List M.Record) → flat (rs ++ qs) ≡ flat rs ++ flat qs
