@@ -11,7 +11,7 @@ use lib.ListN.{length, length-map}
 use lib.IntN.{ℤ}
 use Rattle.meaning.specs.Plan as M
 use Rattle.meaning.specs.Plan.{Times, Timetable}
-use Rattle.meaning.specs.Bounds.{Bound, Chain}
+use Rattle.meaning.specs.Bounds.{Chain}
 use Rattle.meaning.specs.Distances.{Keeps}
 use Rattle.meaning.specs.Outcome.{over}
 use Rattle.meaning.proofs.Bounds as B

@@ -1,5 +1,5 @@
 -- The run of a grade found in the area of all levels: one level more is below the grade, and both ends together are the run of the wish's own levels.
-use mathlib.Core.Path.{_≡_, _∙_}
+use mathlib.Core.Path.{_≡_}
 use mathlib.Core.List.{List}
 use Prim.Native.Nat.{ℕ, _+_, _-_, _≤_, _<_}
 use native.Mathlib.Decide.{ℕ-discrete, decLt}

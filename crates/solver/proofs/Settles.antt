@@ -1,10 +1,9 @@
 -- From what the parts of `settle` and `solve` promise one another to the outcome of a plan, and from that to the promise.
 use mathlib.Core.Path.{_≡_, refl, sym, ap, _∙_}
-use mathlib.Core.Bool.{Bool, true, false, cond, _&&_}
+use mathlib.Core.Bool.{false, cond}
 use mathlib.Core.List.{List}
 use Prim.Native.Nat.{ℕ, zero, suc, _+_, _*_, _-_, _≤_, _<_}
 use native.Mathlib.Omega.{arith}
-use lib.Dec.{leb}
 use lib.ListN.{length}
 use lib.IntN.{ℤ, pos}
 use borrow.Author.Tests.{le-leb, lt-leb}
@@ -21,7 +20,6 @@ use Rattle.meaning.proofs.Refusals.{refused-number}
 use Rattle.meaning.proofs.Solve.{earliest-solved}
 use Rattle.plan.specs.declared.Plan.{Plan}
 use Rattle.plan.specs.declared.Answer.{Answer}
-use Rattle.plan.specs.declared.Verdict.{Verdict}
 use Rattle.plan.specs.declared.Verdict.the-variants.{Taken, Refused}
 use Rattle.plan.specs.Held as H
 use Rattle.plan.specs.Held.{LevelsHeld, Read, verdictOf, planIn}
@@ -33,7 +31,8 @@ use Rattle.chain.specs.Clash.{listed, Broken, Found}
 use Rattle.solver.specs.Listed.{Listed}
 use Rattle.solver.specs.Tried.{Trying, Tried}
 use Rattle.solver.specs.Climbed.{Ready, Climbed}
-use Rattle.solver.specs.Settled.{named, InMemory, Settled, Solves}
+use Rattle.solver.specs.Memory.{InMemory}
+use Rattle.solver.specs.Settled.{named, Settled, Solves}
 use Rattle.solver.specs.declared.Outcome.{Outcome}
 use Rattle.solver.specs.declared.Outcome.the-variants as Out
 use Rattle.solver.proofs.Ends.{Chained, start-net, start-trying, all-stands, clash-broken, found-chained}
@@ -66,10 +65,7 @@ module _ {p : M.Plan} {h : Plan} {held : List ℕ} {list : List Entry} (m : InMe
     settle-ready l =
         let e : r ≡ 2 * (p .events - 1) + 2 * length (p .records) = omega (arith, tried .high, rw (m .holds .events, m .holds .count) at l) in
         record {
-          holds = m .holds;
-          faultless = m .faultless;
-          room = m .room;
-          levels = m .levels;
+          memory = m;
           net = tried .net (start-net (m .faultless) s begun);
           stands = all-stands (m .faultless) s begun (rw e at tried);
         }

@@ -1,5 +1,5 @@
 -- `solver::solve` meets its contract: an area too short, a refusal of the reader, or the outcome of the plan that was read.
-use mathlib.Core.Path.{_≡_, refl}
+use mathlib.Core.Path.{refl}
 use borrow.Author.Needs.{needs}
 use Rattle.meaning.specs.Reading.{read}
 use Rattle.plan.specs.Held.{planIn}
