@@ -7,10 +7,10 @@ use mathlib.Core.List.{List}
 use native.Mathlib.Omega.{arith}
 use lib.IntN.{ℤ, pos, negℤ, _+ℤ_, _-ℤ_}
 use lib.Signed.{leZ, _≤ℤ_}
-use Rattle.ticks.proofs.Ticks.{ticks, neg, sum, leZ-false}
+use Rattle.ticks.proofs.Ticks.{ticks, neg, sum}
 use Rattle.meaning.specs.Plan.{Within, MOST-END, MOST-HORIZON}
-use Rattle.meaning.specs.Distances.{Closed, Keeps, Adds, horizonOnly, earliest}
-use Rattle.meaning.proofs.Distances.{adds-closed, adds-below, adds-keeps, adds-old, adds-new, start-closed, start-below, start-means, means-start, same-set, Horizon, earliest-holds, earliest-least}
+use Rattle.meaning.specs.Distances.{Closed, Keeps, Adds, horizonOnly}
+use Rattle.meaning.proofs.Distances.{adds-closed, adds-below, adds-keeps, adds-old, adds-new, start-closed, start-below, start-means, means-start, same-set, Horizon}
 use Rattle.distances.specs.Matrix.{STRIDE, at, added, meeting, Net, Changed, Started, Adding, Added, Narrowing, Cut, Narrowed}
 
 -- ---- a matrix is as its entries are
@@ -40,10 +40,6 @@ started-means {n} {H} {d} s some few =
     let all = started-at s few in
     ((λ k. start-means some (same-set all k)), (λ k. same-set (λ i j p q. sym (all i j p q)) (means-start k)))
 
--- a matrix stands for a timetable: the earliest times are kept
-pub net-kept : {n H : ℕ} {d : List ℤ} → Net n H d → Keeps n (at d) (earliest (at d))
-net-kept net = earliest-holds (net .closed) (net .some)
-
 -- ---- one more bound
 pub changed-adds : {n : ℕ} {d d′ : List ℤ} (a b : ℕ) (w : ℤ) → Changed n n d d′ (added (at d) a b w) → Adds n a b w (at d) (at d′)
 changed-adds a b w r = record { at = λ {i} {j} p q. r .done i j p q }
@@ -67,9 +63,6 @@ module _ {n a b : ℕ} {w : ℤ} {d d′ : List ℤ} {r : Bool} (asked : Adding 
       let c = asked .net .closed in
       let s = changed-adds a b w (h .taken e) in
       ((λ k. (adds-old c (asked .from) (asked .to) s k, adds-new c (asked .from) (asked .to) s k)), (λ k. adds-keeps c (asked .from) (asked .to) s (k .0) (k .1)))
-
-  pub added-none : r ≡ false → (t : ℕ → ℤ) → Keeps n (at d) t → t b ≤ℤ (t a +ℤ w) → ⊥
-  added-none e t k m = omega (ticks, leZ-false (pos 0) (at d b a +ℤ w) (sym (h .answer) ∙ e), sum (at d b a) w, k .kept (asked .to) (asked .from))
 
 -- ---- a question
 -- the run meets what is left
@@ -145,22 +138,6 @@ module _ {n a b : ℕ} {lo hi : ℤ} {d d′ : List ℤ} {r : Bool} (asked : Nar
         (λ k. adds-keeps c₁ lb la s₁ (adds-keeps c la lb s (k .0) (omega (ticks, k .1 .below))) (omega (ticks, k .1 .above))),
       )
 
-  pub narrowed-some : Keeps n (at d′) (earliest (at d′))
-  narrowed-some = net-kept (h .net (asked .net))
-
   pub narrowed-none : r ≡ false → (t : ℕ → ℤ) → Keeps n (at d) t → Within lo (t b -ℤ t a) hi → ⊥
   narrowed-none e t k =
       missed (at d) a b lo hi (t b -ℤ t a) (sym (h .answer) ∙ e) (omega (ticks, k .kept (asked .from) (asked .to))) (omega (ticks, k .kept (asked .to) (asked .from), neg (at d b a), sum (t b) (negℤ (t a)), neg (t a)))
-
--- ---- times
--- what `earliest` writes, read as t
-module _ {n H : ℕ} {d : List ℤ} {t : ℕ → ℤ} (net : Net n H d) (f : (e : ℕ) → e < n → t e ≡ earliest (at d) e) where
-  pub times-kept : Keeps n (at d) t
-  times-kept =
-      record {
-        origin = f 0 (net .some) ∙ net-kept net .origin;
-        kept = λ {i} {j} p q. omega (ticks, f i p, f j q, net .closed .tri p q (net .some));
-      }
-
-  pub times-least : {u : ℕ → ℤ} → Keeps n (at d) u → {e : ℕ} → e < n → t e ≤ℤ u e
-  times-least k {e} p = rw (f e p) (earliest-least (net .some) k p)

@@ -1,12 +1,9 @@
 -- Sets of events, over numbers and any width: who is a member, how many there are, and the least, after `putIn`.
 use mathlib.Core.Path.{_≡_, refl, sym, ap, _∙_, subst}
-use mathlib.Core.Bool.{Bool, true, false, cond, _||_}
-use Prim.Native.Nat.{ℕ, suc, _+_, _^_, _≤_, _<_}
+use mathlib.Core.Bool.{Bool, true, false, _||_}
+use Prim.Native.Nat.{ℕ, _+_, _^_, _≤_, _<_}
 use native.Mathlib.Omega.{arith}
-use native.Mathlib.Numerals.{add-one}
 use lib.Dec.{eqb}
-use lib.Pow.{pow-lt}
-use lib.Bits.{or-lt}
 use lib.Count.{ones, trailingZeros}
 use borrow.Author.Tests.{eqb-true, eqb-false, eq-eqb, ne-eqb}
 use Rattle.eventset.specs.Sets.{digit, member, putIn}
@@ -64,24 +61,10 @@ put-keeps s e f h = put-member s e f ∙ ap (λ (t : Bool). eqb f e || t) h ∙ 
     at true = refl
     at false = refl
 
-pub put-lt : (n s e : ℕ) → s < 2 ^ n → e < n → putIn s e < 2 ^ n
-put-lt n s e h l = or-lt n s (2 ^ e) h (pow-lt l)
-
 -- ---- how many
 
 pub count-fresh : (s e : ℕ) → member s e ≡ false → ones (putIn s e) ≡ ones s + 1
 count-fresh s e h = ap ones (or-fresh s e (lacks-digit s e h)) ∙ add-ones s e (lacks-digit s e h)
-
-pub count-present : (s e : ℕ) → member s e ≡ true → ones (putIn s e) ≡ ones s
-count-present s e h = ap ones (put-present s e h)
-
--- both in one
-pub count-put : (s e : ℕ) → ones (putIn s e) ≡ cond (member s e) (ones s) (suc (ones s))
-count-put s e = at (member s e) refl
-  where
-    at : (t : Bool) → member s e ≡ t → ones (putIn s e) ≡ cond t (ones s) (suc (ones s))
-    at true p = count-present s e p
-    at false p = count-fresh s e p ∙ add-one (ones s)
 
 -- ---- the empty set, and a set of one
 
@@ -97,9 +80,6 @@ one-member e = put-same 0 e
 
 pub one-other : (e f : ℕ) → (f ≡ e → ⊥) → member (putIn 0 e) f ≡ false
 one-other e f n = put-other 0 e f n ∙ none-member f
-
-pub one-count : (e : ℕ) → ones (putIn 0 e) ≡ 1
-one-count e = count-fresh 0 e (none-member e) ∙ ap (λ (x : ℕ). x + 1) none-count
 
 -- ---- the least
 

@@ -1,7 +1,7 @@
 -- The bounds of a plan: which they are, that their events are two different ones of the plan, and that a timetable is a row of times
 -- that holds them all. A plan's timetables are told record by record too: `UpTo p k` keeps the horizon and the first k records.
 use mathlib.Core.Path.{_≡_, refl, sym, subst}
-use mathlib.Core.Logic.{_↔_, ⊎-elim}
+use mathlib.Core.Logic.{⊎-elim}
 use mathlib.Core.List.{List, [], _∷_, List·Memᴰ, List·Memᴰ·head, List·Memᴰ·tail, List·Memᴰ·not-nil, List·Memᴰ·append-cases, Memᴰ·append-left, Memᴰ·append-right}
 use Prim.Native.Nat.{ℕ, zero, suc, _+_, _-_, _≤_, _<_, suc-le-suc}
 use native.Mathlib.Nat.{le-of-suc-le-suc, not-suc-le-zero}
@@ -118,10 +118,6 @@ holds-timetable {p} {t} o f = record {
     inside : (e : ℕ) → e < p .events → Within (pos 0) (t e) (pos (p .horizon))
     inside zero h = record { above = omega (ticks, o); below = omega (ticks, o) }
     inside (suc e) h = record { above = omega (ticks, o, f _ (given-horizon-lower p (suc e) (omega arith) h)); below = omega (ticks, o, f _ (given-horizon-upper p (suc e) (omega arith) h)) }
-
--- a timetable is a row of times from 0 on that holds every bound of the plan
-pub timetable-bounds : (p : Plan) (t : Times) → Timetable p t ↔ ((t 0 ≡ pos 0) × ((b : Bound) → Given p b → Holds t b))
-timetable-bounds p t = (λ h. (h .origin, timetable-holds h), λ y. holds-timetable (y .0) (y .1))
 
 -- ---- record by record
 

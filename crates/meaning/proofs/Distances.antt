@@ -1,16 +1,15 @@
 -- Closed distances: one more bound, the horizon alone, times that are attained, and one matrix for one set of timetables.
 -- Each fact is one call of `omega ticks` over the triangles that it needs; the latest side is the earliest of the turned matrix.
-use mathlib.Core.Path.{_≡_, refl, sym, ap, _∙_, subst}
-use mathlib.Core.Logic.{_⊎_, inl, inr, _↔_}
-use Prim.Native.Nat.{ℕ, zero, suc, _+_, _≤_, _<_}
+use mathlib.Core.Path.{_≡_, refl}
+use Prim.Native.Nat.{ℕ, _<_}
 use mathlib.Core.Bool.{Bool, true, false, cond}
 use native.Mathlib.Decide.{ℕ-discrete}
-use lib.Dec.{T, eqb, eqb-refl}
-use lib.IntN.{ℤ, pos, negsuc, negℤ, _+ℤ_, _-ℤ_}
+use lib.Dec.{eqb}
+use lib.IntN.{ℤ, pos, negℤ, _+ℤ_, _-ℤ_}
 use lib.Signed.{_≤ℤ_, _<ℤ_}
-use borrow.Author.Tests.{eqb-true, eqb-false, eq-eqb, ne-eqb}
+use borrow.Author.Tests.{eq-eqb, ne-eqb}
 use Rattle.ticks.specs.Min.{minZ}
-use Rattle.ticks.proofs.Ticks.{up, dn, ticks, neg, sum}
+use Rattle.ticks.proofs.Ticks.{ticks}
 use Rattle.meaning.specs.Distances.{Closed, Keeps, Adds, Below, horizonOnly, latest, earliest}
 
 abbrev pub Distances : Type 0
@@ -49,13 +48,6 @@ module _ {n a b : ℕ} {w : ℤ} {D D′ : Distances} (c : Closed n D) (la : a <
   -- the entries' range
   pub adds-below : {H : ℕ} → Below n H D → Below n H D′
   adds-below {H} r = record { hi = λ {i} {j} p q. omega (ticks, e .at p q, r .hi p q) }
-
-  -- row b and column a stay
-  pub same-b : pos 0 ≤ℤ (D b a +ℤ w) → {j : ℕ} → j < n → D′ b j ≡ D b j
-  same-b m {j} q = omega (ticks, e .at lb q)
-
-  pub same-a : pos 0 ≤ℤ (D b a +ℤ w) → {i : ℕ} → i < n → D′ i a ≡ D i a
-  same-a m {i} p = omega (ticks, e .at p la)
 
 -- a row that the program passes over is as `Adds` asks
 pub skipped : {n b i j : ℕ} {D : Distances} (a : ℕ) (w : ℤ) → Closed n D → b < n → i < n → j < n → D i b ≤ℤ (D i a +ℤ w) → D i j ≡ minZ (D i j) ((D i a +ℤ w) +ℤ D b j)

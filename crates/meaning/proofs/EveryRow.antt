@@ -16,6 +16,7 @@ use Rattle.meaning.specs.Ladder.{Question, questions, replies, better}
 use Rattle.meaning.specs.Outcome.{BestTimes, at, Solved}
 use Rattle.meaning.specs.Reading.{same}
 use Rattle.meaning.proofs.Faultless.{GoodRecord, WithoutFault}
+use Rattle.meaning.proofs.Times.{timesFrom, times-at}
 
 -- the second is computed only where the first passes
 abbrev implies : Bool → Bool → Bool
@@ -44,16 +45,6 @@ up-to (suc H) f t v h = go (ℕ-discrete v (suc H)) (λ g. up-to H f (and-yes (f
 abbrev every : ℕ → ℕ → (List ℤ → Bool) → Bool
 every H zero f = f []
 every H (suc m) f = upTo H (λ v. every H m (λ us. f (pos v ∷ us)))
-
--- the times of the events from s on, m of them
-abbrev timesFrom : Times → ℕ → ℕ → List ℤ
-timesFrom u s zero = []
-timesFrom u s (suc m) = u s ∷ timesFrom u (suc s) m
-
-at-times : (u : Times) (s m e : ℕ) → e < m → at (timesFrom u s m) e ≡ u (s + e)
-at-times u s zero e h = absurd (not-suc-le-zero h)
-at-times u s (suc m) zero h = ap u (omega arith)
-at-times u s (suc m) (suc e) h = at-times u (suc s) m e (le-of-suc-le-suc h) ∙ ap u (omega arith)
 
 in-range : (z : ℤ) (H : ℕ) → Within (pos 0) z (pos H) → (v : ℕ) × (z ≡ pos v) × (v ≤ H)
 in-range (pos n) H w = (n, refl, leb→le n H (w .below .le))
@@ -191,7 +182,7 @@ module _ (p : Plan) (ts : List ℤ) (ls : List ℕ) (good : WithoutFault p) (f :
   agrees : (u : Times) → Timetable p u → (e : ℕ) → e < p .events → at (row u) e ≡ u e
   unfolding row
   agrees u h zero l = sym (h .origin)
-  agrees u h (suc e) l = at-times u 1 (p .events - 1) e (omega arith) ∙ ap u (omega arith)
+  agrees u h (suc e) l = times-at u 1 (p .events - 1) e (omega arith) ∙ ap u (omega arith)
 
   judged : (u : Times) → Timetable p u → T (notAhead ts (row u) (repliesOf (at ts)) (repliesOf u))
   unfolding row repliesOf

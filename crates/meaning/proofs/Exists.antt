@@ -2,7 +2,7 @@
 -- bound that cannot be added closes a chain.
 use mathlib.Core.Logic.{_⊎_, inl, inr, ⊎-map}
 use mathlib.Core.List.{List}
-use Prim.Native.Nat.{ℕ, zero, suc, _≤_, _<_}
+use Prim.Native.Nat.{ℕ, zero, suc, _≤_}
 use native.Mathlib.Omega.{arith}
 use lib.ListN.{length}
 use lib.IntN.{pos, _+ℤ_}
@@ -43,11 +43,6 @@ module _ {p : Plan} (w : WithoutFault p) where
 
   pub held-next : {k : ℕ} {D : Distances} → Held p D (With (lower k (recordAt p k)) (With (upper k (recordAt p k)) (UpTo p k))) → Held p D (UpTo p (suc k))
   held-next h = record { stands = stands-next p (h .stands); walks = h .walks }
-
-  -- the two bounds of record k, added one after the other
-  pub next-record : {k : ℕ} {D D′ D″ : Distances} → k < length (p .records) → Held p D (UpTo p k) → AddsBound (p .events) (upper k (recordAt p k)) D D′ → Meets (upper k (recordAt p k)) D →
-      AddsBound (p .events) (lower k (recordAt p k)) D′ D″ → Meets (lower k (recordAt p k)) D′ → Held p D″ (UpTo p (suc k))
-  next-record {k} l h a m b n = held-next (held-adds (held-adds h (given-upper p k l) a m) (given-lower p k l) b n)
 
   pub held-all : {D : Distances} → Held p D (UpTo p (length (p .records))) → Held p D (Timetable p)
   held-all h = record { stands = stands-all p (h .stands); walks = h .walks }

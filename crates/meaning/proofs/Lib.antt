@@ -11,6 +11,8 @@ pub mod Climb
 pub mod Levels
 pub mod Fair
 pub mod Wishes
+-- rows of times
+pub mod Times
 -- a text's reading
 pub mod Faultless
 pub mod ReadGood

@@ -5,7 +5,7 @@ use mathlib.Core.Logic.{_↔_}
 use mathlib.Core.List.{List, [], _∷_}
 use mathlib.Core.Bool.{Bool, true, false, true≢false, cond}
 use Prim.Native.Nat.{ℕ, zero, suc, _-_, _≤_, _<_, min, zero-le, suc-le-suc}
-use native.Mathlib.Decide.{decLt, decLe, ℕ-discrete}
+use native.Mathlib.Decide.{decLt, decLe}
 use native.Mathlib.Nat.{le-of-suc-le-suc, not-suc-le-zero}
 use native.Mathlib.Omega.{arith}
 use lib.Dec.{leb, ltb}
@@ -140,20 +140,6 @@ peaked-decides ls mild = (peaked-sound ls, peaked-complete ls mild)
 
 pub past-end : {y : ℕ} → 1 ≤ y → (ls : List ℕ) (j : ℕ) → length ls ≤ j → getD ls j 0 < y
 past-end lo ls j h = omega (arith, List·getD-eq-default ls 0 {n = j} h)
-
-pub one-more-before : {y : ℕ} (ls : List ℕ) (first : ℕ) → ((j : ℕ) → j < first → getD ls j 0 < y) → getD ls first 0 < y → (j : ℕ) → j < suc first → getD ls j 0 < y
-one-more-before {y} ls first f low j h = go (ℕ-discrete j first)
-  where
-    go : Dec (j ≡ first) → getD ls j 0 < y
-    go (yes e) = rw e low
-    go (no n) = f j (omega arith)
-
-pub one-more-after : {y : ℕ} (ls : List ℕ) (past : ℕ) → ((j : ℕ) → suc past ≤ j → getD ls j 0 < y) → getD ls past 0 < y → (j : ℕ) → past ≤ j → getD ls j 0 < y
-one-more-after {y} ls past f low j h = go (ℕ-discrete j past)
-  where
-    go : Dec (j ≡ past) → getD ls j 0 < y
-    go (yes e) = rw e low
-    go (no n) = f j (omega arith)
 
 -- ---- every grade has a run in every list: its ends as two functions
 

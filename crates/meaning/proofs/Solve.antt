@@ -2,9 +2,8 @@
 -- ladder with a matrix for the timetables left. Each question is two bounds; they can be added (yes) or leave nothing (no).
 use mathlib.Core.Path.{_≡_, refl, ap, sym, subst⁻¹, _∙_}
 use mathlib.Core.Logic.{_↔_, _⊎_, inl, inr, ⊎-elim, ⊎-map}
-use mathlib.Core.List.{List, [], _∷_}
-use Prim.Native.Nat.{ℕ, zero, suc, _+_, _≤_, _<_}
-use native.Mathlib.Nat.{le-of-suc-le-suc, not-suc-le-zero}
+use mathlib.Core.List.{List}
+use Prim.Native.Nat.{ℕ, zero, suc, _≤_, _<_}
 use native.Mathlib.Omega.{arith}
 use lib.ListN.{length, set, replicate, getD-replicate}
 use lib.IntN.{ℤ, pos, _+ℤ_, _-ℤ_}
@@ -16,6 +15,7 @@ use Rattle.meaning.specs.Bounds.{Bound, upper, lower}
 use Rattle.meaning.specs.Distances.{Keeps, earliest}
 use Rattle.meaning.specs.Outcome.{at, Solved}
 use Rattle.meaning.proofs.Run.{Run}
+use Rattle.meaning.proofs.Times.{timesFrom, times-count, times-at}
 use Rattle.meaning.proofs.Faultless.{WithoutFault, GoodRecord}
 use Rattle.meaning.proofs.Distances.{Distances, earliest-holds, earliest-least}
 use Rattle.meaning.proofs.Peaks.{InRun, runFirst, runPast, run-is}
@@ -69,22 +69,6 @@ pub earliest-solved : {p : Plan} → WithoutFault p → {g : List ℕ} → Climb
 earliest-solved {p} w c {D} s ts n f =
     ladder-solved p w c ts n (s .from (keeps-agree (at ts) (w .some) (earliest-holds (s .closed) (w .some)) f))
     (λ u h e l. subst⁻¹ (λ z. z ≤ℤ u e) (f e l) (earliest-least (w .some) (s .into h) l))
-
--- ---- rows of times as lists
-
--- the times of the events from e on, m of them
-abbrev pub timesFrom : Times → ℕ → ℕ → List ℤ
-timesFrom t e zero = []
-timesFrom t e (suc m) = t e ∷ timesFrom t (suc e) m
-
-pub times-count : (t : Times) (e m : ℕ) → length (timesFrom t e m) ≡ m
-times-count t e zero = refl
-times-count t e (suc m) = ap suc (times-count t (suc e) m)
-
-pub times-at : (t : Times) (e m i : ℕ) → i < m → at (timesFrom t e m) i ≡ t (e + i)
-times-at t e zero i h = absurd (not-suc-le-zero h)
-times-at t e (suc m) zero h = ap t (omega arith)
-times-at t e (suc m) (suc i) h = times-at t (suc e) m i (le-of-suc-le-suc h) ∙ ap t (omega arith)
 
 -- ---- the climb, with a matrix for the timetables left
 

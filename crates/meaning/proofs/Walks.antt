@@ -66,6 +66,30 @@ pub record Walk (n : ℕ) (G : Bound → Type 0) (D : Distances) (i j : ℕ) (z 
 pub record Walks (n : ℕ) (G : Bound → Type 0) (D : Distances) : Type 0 where
   pub walk : {i j : ℕ} → i < n → j < n → Walk n G D i j (D i j)
 
+-- more bounds, no fewer walks
+pub walks-wider : {n : ℕ} {G F : Bound → Type 0} {D : Distances} → ((b : Bound) → G b → F b) → Walks n G D → Walks n F D
+walks-wider f W = record {
+  walk = λ hi hj. let w = W .walk hi hj in record {
+    steps = w .steps;
+    leads = w .leads;
+    sums = w .sums;
+    simple = w .simple;
+    known = λ b m. let k = w .known b m in record { given = f b (k .given); starts = k .starts; ends = k .ends; light = k .light };
+  };
+}
+
+-- a matrix is as its entries are
+pub walks-same : {n : ℕ} {G : Bound → Type 0} {D E : Distances} → ((i j : ℕ) → i < n → j < n → E i j ≡ D i j) → Walks n G D → Walks n G E
+walks-same f W = record {
+  walk = λ {i} {j} hi hj. let w = W .walk hi hj in record {
+    steps = w .steps;
+    leads = w .leads;
+    sums = w .sums ∙ sym (f i j hi hj);
+    simple = w .simple;
+    known = λ b m. let k = w .known b m in record { given = k .given; starts = k .starts; ends = k .ends; light = rw (f (b .start) (b .end) (k .starts) (k .ends)) (k .light) };
+  };
+}
+
 module _ {n : ℕ} {G : Bound → Type 0} {D : Distances} where
   -- they lead to an event below n
   pub leads-below : {i v : ℕ} {bs : List Bound} → i < n → Leads i bs v → AllKnown n G D bs → v < n

@@ -54,6 +54,15 @@ next-rule (x ∷ rs) zero h e = subst⁻¹ (λ (z : Record). wishCount (z ∷ []
 next-rule (rule c d l k ∷ rs) (suc r) h e = next-rule rs r (le-of-suc-le-suc h) e
 next-rule (wish c d l k ∷ rs) (suc r) h e = ap suc (next-rule rs r (le-of-suc-le-suc h) e)
 
+-- no more wishes than records
+pub wishes-few : (rs : List Record) → wishCount rs ≤ length rs
+wishes-few [] = omega arith
+wishes-few (rule a b lo hi ∷ rs) = omega (arith, wishes-few rs)
+wishes-few (wish a b lo ls ∷ rs) = omega (arith, wishes-few rs)
+
+pub wish-below : {a b : ℕ} {lo : ℤ} {ls : List ℕ} (rs : List Record) (k : ℕ) → k < length rs → getD rs k nothing ≡ wish a b lo ls → wishesBefore rs k < length rs
+wish-below rs k l e = omega (arith, wish-number rs k l e, wishes-few rs)
+
 -- past the last record all wishes are counted
 pub all-wishes : (rs : List Record) → wishesBefore rs (length rs) ≡ wishCount rs
 all-wishes rs = ap wishCount (take-length rs)

@@ -1,13 +1,12 @@
 -- The answer of the reader from what its parts answer.
 use mathlib.Core.Path.{_≡_, refl, sym, ap, _∙_}
-use mathlib.Core.Bool.{Bool, true, false}
 use mathlib.Core.List.{List}
 use Prim.Native.Nat.{ℕ, _≤_, _<_}
 use native.Mathlib.Omega.{arith}
-use borrow.Author.Tests.{lt-ltb, le-ltb, le-leb, lt-leb, leb-true}
-use lib.Dec.{leb}
+use borrow.Author.Tests.{lt-ltb, le-ltb, le-leb, lt-leb}
 use lib.ListN.{length, getD}
 use Rattle.meaning.specs.Plan as M
+use Rattle.meaning.specs.Plan.{MOST-LEVELS-TOGETHER}
 use Rattle.meaning.specs.Reading as R
 use Rattle.meaning.specs.Reading.{Reading, plan, refused, empty}
 use Rattle.plan.specs.declared.Answer.{Answer}
@@ -25,8 +24,8 @@ pub text-short : (text : List ℕ) → length text ≤ 60000 → R.read text ≡
 unfolding R.read
 text-short text h = rw (le-ltb 60000 (length text) h)
 
-pub taken-plan : (x : Reading) → Taken ≡ verdictOf x → (p : M.Plan) × (x ≡ plan p)
-taken-plan (plan p) e = (p, refl)
+pub taken-plan : (x : Reading) → Taken ≡ verdictOf x → x ≡ plan (planIn x)
+taken-plan (plan p) e = refl
 taken-plan (refused k l) e = let z : _≡_ {A = ℕ} 0 1 = cc in absurd (omega arith)
 
 pub refused-is : (x : Reading) (k l : ℕ) → Refused k l ≡ verdictOf x → x ≡ refused k l
@@ -55,33 +54,20 @@ module _ (text before after : List ℕ) (r : Answer) where
       let known : heard before text ≡ x = rw (le-leb 8192 (length before) h) e in
       record { verdict = rw known v; held = rw known o; short = λ s. absurd (omega arith); levels = λ _. rw known l }
 
--- ---- what an answer says to those who use it
+-- ---- what an answer says to those who use it: in an area long enough memory holds what the text is read as
 
-pub record Found (text before after : List ℕ) (r : Answer) : Type 0 where
-  pub p : M.Plan
-  pub reads : R.read text ≡ plan p
-  pub long : 8192 ≤ length before
-  pub holds : Holds p (r .plan)
-  pub held : LevelsHeld p before after
+module _ {text before after : List ℕ} {r : Answer} (s : Read text before after r) (long : MOST-LEVELS-TOGETHER ≤ length before) where
+  all-heard : heard before text ≡ R.read text
+  all-heard = rw (le-leb MOST-LEVELS-TOGETHER (length before) long)
 
-module _ (text before after : List ℕ) (r : Answer) (s : Read text before after r) where
-  -- a verdict `Taken`: the text is a plan, and memory holds it
-  pub found : r .verdict ≡ Taken → Found text before after r
-  found e = go (leb 8192 (length before)) refl
-    where
-      go : (t : Bool) → leb 8192 (length before) ≡ t → Found text before after r
-      go true l =
-          let long = leb-true 8192 (length before) l in
-          let known : heard before text ≡ R.read text = rw l in
-          let f = taken-plan (R.read text) (sym e ∙ s .verdict ∙ ap verdictOf known) in
-          let is : heard before text ≡ plan (f .0) = known ∙ f .1 in
-          record { p = f .0; reads = f .1; long = long; holds = rw is at (s .held); held = rw is at (s .levels long) }
-      go false l =
-          let short : heard before text ≡ refused 7 0 = rw l in
-          let no : Taken ≡ Refused 7 0 = sym e ∙ s .verdict ∙ ap verdictOf short in
-          let z : _≡_ {A = ℕ} 0 1 = cc in
-          absurd (omega arith)
+  pub read-refused : {k line : ℕ} → r .verdict ≡ Refused k line → R.read text ≡ refused k line
+  read-refused {k} {line} e = sym all-heard ∙ refused-is (heard before text) k line (sym e ∙ s .verdict)
 
-  -- a refusal: the area is too short, or the text's reading is that refusal
-  pub refused-so : (k line : ℕ) → r .verdict ≡ Refused k line → heard before text ≡ refused k line
-  refused-so k line e = refused-is (heard before text) k line (sym e ∙ s .verdict)
+  pub read-taken : r .verdict ≡ Taken → R.read text ≡ plan (planIn (R.read text))
+  read-taken e = taken-plan (R.read text) (sym e ∙ s .verdict ∙ ap verdictOf all-heard)
+
+  pub read-holds : Holds (planIn (R.read text)) (r .plan)
+  read-holds = rw all-heard at (s .held)
+
+  pub read-held : LevelsHeld (planIn (R.read text)) before after
+  read-held = rw all-heard at (s .levels long)

@@ -13,11 +13,11 @@ use lib.Seq.{take-suc, length-take-le, getD-take, ext-getD, drop-cons}
 use Rattle.meaning.specs.Plan as M
 use Rattle.meaning.specs.Plan.{rule, wish, nothing, wishCount, wishes}
 use Rattle.meaning.proofs.Faultless.{Levelled, WithoutFault}
+use Rattle.meaning.proofs.Wishes.{wishes-few}
 use Rattle.plan.specs.declared.Record.{Record}
 use Rattle.plan.specs.declared.Plan.{Plan}
 use Rattle.plan.specs.Held.{Holds, rowsOf, blank}
 use Rattle.plan.proofs.Growth.{length-rows}
-use Rattle.solver.proofs.Memory.{wishes-few}
 use Rattle.report.specs.Printed.{levelLines}
 use Rattle.report.specs.Put.{Put}
 use Rattle.report.specs.Rows.{levelLine}

@@ -1,23 +1,19 @@
 -- The bound that a code names: what the rows of memory say of it, and that the bounds of a plan have names.
-use mathlib.Core.Path.{_≡_, refl, sym, ap, _∙_}
+use mathlib.Core.Path.{_≡_, sym, ap, _∙_}
 use mathlib.Core.Logic.{_⊎_, inl, inr, ⊎-elim}
-use mathlib.Core.Bool.{Bool, true, false}
 use mathlib.Core.List.{List, [], _∷_, List·Memᴰ, List·Memᴰ·not-nil, List·Memᴰ·cases-cons, List·Memᴰ·append-cases}
 use Prim.Native.Nat.{ℕ, zero, suc, _+_, _*_, _-_, _/_, _%_, _≤_, _<_}
 use native.Mathlib.Omega.{arith}
-use borrow.Author.Tests.{eq-eqb, ne-eqb, lt-ltb, le-ltb, ltb-true, ltb-false}
-use lib.Dec.{ltb}
+use borrow.Author.Tests.{eq-eqb, ne-eqb, lt-ltb, le-ltb}
 use lib.IntN.{ℤ, pos, negℤ}
-use lib.ListN.{length, getD, List·getD-eq-default}
+use lib.ListN.{length, getD}
 use Rattle.meaning.specs.Plan as M
 use Rattle.meaning.specs.Plan.{nothing, recordAt}
 use Rattle.meaning.specs.Bounds.{Bound, upper, lower, horizonUpper, horizonLower, recordBounds, horizonBounds, bounds}
 use Rattle.meaning.proofs.Faultless.{WithoutFault}
 use Rattle.plan.specs.declared.Record.{Record}
 use Rattle.plan.specs.declared.Plan.{Plan}
-use Rattle.plan.specs.Held.{Holds, rowOf, rowsOf, blank}
-use Rattle.plan.proofs.Growth.{length-rows}
-use Rattle.solver.proofs.Memory.{held-row}
+use Rattle.plan.specs.Held.{rowOf}
 use Rattle.report.specs.Printed.{named, ofRecord, ofHorizon}
 
 -- ---- a code and the record or the event that it names
@@ -47,17 +43,6 @@ module _ (p : M.Plan) (c : ℕ) where
   pub name-horizon : 512 ≤ c → named p c ≡ ofHorizon p c
   unfolding named
   name-horizon l = rw (le-ltb c 512 l)
-
--- ---- the row of a record: past the last one it is blank
-
-pub row-held : (p : M.Plan) (h : Plan) (k : ℕ) → Holds p h → (first : ℕ) × (getD (h .records) k blank ≡ rowOf first (recordAt p k))
-row-held p h k q = go (ltb k (length (p .records))) refl
-  where
-    go : (b : Bool) → ltb k (length (p .records)) ≡ b → (first : ℕ) × (getD (h .records) k blank ≡ rowOf first (recordAt p k))
-    go true e = (_, held-row q k (ltb-true k (length (p .records)) e))
-    go false e =
-        let l : length (p .records) ≤ k = ltb-false k (length (p .records)) e in
-        (0, q .rows k ∙ List·getD-eq-default (rowsOf 0 (p .records)) blank (omega (arith, length-rows 0 (p .records))) ∙ sym (ap (rowOf 0) (List·getD-eq-default (p .records) nothing l)))
 
 -- ---- the bounds of a plan have names
 

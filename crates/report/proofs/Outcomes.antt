@@ -18,11 +18,11 @@ use Rattle.meaning.proofs.Faultless.{WithoutFault}
 use Rattle.meaning.proofs.Levels.{levels-count}
 use Rattle.meaning.proofs.ReadGood.{read-faultless}
 use Rattle.meaning.proofs.Refusals.{Refusal, refused-number}
+use Rattle.meaning.proofs.Wishes.{wishes-few}
 use Rattle.plan.specs.declared.Plan.{Plan as Held}
 use Rattle.plan.specs.Held.{planIn}
 use Rattle.solver.specs.declared.Outcome.{Outcome as Found}
 use Rattle.solver.specs.Settled.{numberOf, placeOf}
-use Rattle.solver.proofs.Memory.{wishes-few}
 use Rattle.report.specs.Printed.{line, atLines, levelLines, stepLines, printed}
 use Rattle.report.specs.Put.{Put}
 use Rattle.report.specs.Answer.{AREA, Told, Answered}

@@ -11,15 +11,15 @@ use lib.ListN.{length, length-map}
 use lib.IntN.{ℤ}
 use Rattle.meaning.specs.Plan as M
 use Rattle.meaning.specs.Plan.{Times, Timetable}
-use Rattle.meaning.specs.Bounds.{Bound, Chain}
+use Rattle.meaning.specs.Bounds.{Chain}
 use Rattle.meaning.specs.Distances.{Keeps}
 use Rattle.meaning.specs.Outcome.{over}
 use Rattle.meaning.proofs.Bounds as B
 use Rattle.meaning.proofs.Bounds.{given-horizon-upper, given-horizon-lower, timetable-holds, holds-timetable}
-use Rattle.meaning.proofs.Distances.{Distances, Horizon}
+use Rattle.meaning.proofs.Distances.{Horizon}
 use Rattle.meaning.proofs.Faultless.{WithoutFault}
 use Rattle.meaning.proofs.Stands.{Stands}
-use Rattle.meaning.proofs.Walks.{Walks, walks-horizon}
+use Rattle.meaning.proofs.Walks.{Walks, walks-same, walks-horizon}
 use Rattle.distances.specs.Matrix.{at, Net, Started}
 use Rattle.distances.proofs.Net.{started-net, started-means}
 use Rattle.chain.specs.declared.Bound.{Bound as Entry}
@@ -29,18 +29,6 @@ use Rattle.chain.proofs.Lead.{broken, found-chain}
 use Rattle.solver.specs.Listed.{Listed, horizonCount, boundCount}
 use Rattle.solver.specs.Tried.{Trying, Tried}
 use Rattle.solver.proofs.Places.{listed-horizon, listed-given, given-place, place-given, listed-fit, bound-count}
-
--- a matrix is as its entries are
-walks-same : {n : ℕ} {G : Bound → Type 0} {D E : Distances} → ((i j : ℕ) → i < n → j < n → E i j ≡ D i j) → Walks n G D → Walks n G E
-walks-same f W = record {
-  walk = λ {i} {j} hi hj. let w = W .walk hi hj in record {
-    steps = w .steps;
-    leads = w .leads;
-    sums = w .sums ∙ sym (f i j hi hj);
-    simple = w .simple;
-    known = λ b m. let k = w .known b m in record { given = k .given; starts = k .starts; ends = k .ends; light = rw (f (b .start) (b .end) (k .starts) (k .ends)) (k .light) };
-  };
-}
 
 -- ---- the plan without its records
 

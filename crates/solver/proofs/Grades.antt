@@ -16,16 +16,17 @@ use Rattle.meaning.specs.Distances.{earliest}
 use Rattle.meaning.proofs.Faultless.{GoodRecord, WithoutFault}
 use Rattle.meaning.proofs.Stands.{stands-same, stands-earliest}
 use Rattle.meaning.proofs.Solve.{all-left}
-use Rattle.meaning.proofs.Wishes.{number, next-wish, next-rule, all-wishes, climb-start}
+use Rattle.meaning.proofs.Wishes.{number, next-wish, next-rule, wishes-few, wish-below, all-wishes, climb-start}
 use Rattle.plan.specs.declared.Plan.{Plan}
 use Rattle.plan.specs.Held.{rowOf, blank, Holds}
+use Rattle.plan.proofs.Use.{rowAt, held-row}
 use Rattle.distances.specs.Matrix.{at}
 use Rattle.distances.specs.Sweep.{Swept}
 use Rattle.distances.proofs.Sweep.{swept-none, swept-more, swept-written}
 use Rattle.solver.specs.Listed.{Planned}
+use Rattle.solver.specs.Memory.{InMemory}
 use Rattle.solver.specs.Climbed.{Ready, Climbed}
-use Rattle.solver.specs.Climbing.{RecordCleared, GradesCleared, Kept, Stage, Grading, Graded, ToClimb}
-use Rattle.solver.proofs.Memory.{firstOf, held-row, wishes-few, wish-below}
+use Rattle.solver.specs.Climbing.{RecordCleared, GradesCleared, Stage, Grading, Graded, ToClimb}
 
 -- ---- grade 0: k records are done, w of them wishes
 
@@ -52,7 +53,7 @@ module _ {h : Plan} {k w : ℕ} {before after : List ℕ} (known : Planned h) (r
   cleared-room z =
       let p = known .plan in
       let i : k < length (p .records) = omega (arith, known .holds .count) in
-      let n = wish-room p k (firstOf (p .records) k) i (recordAt p k) refl (rw (held-row (known .holds) k i) at z) in
+      let n = wish-room p k (rowAt h k .first) i (recordAt p k) refl (rw (held-row (known .holds) k) at z) in
       omega (arith, u .count (known .holds) (known .faultless), known .faultless .few)
 
   pub cleared-next : {after′ : List ℕ} {r : ℕ} → RecordCleared (getD (h .records) k blank) w after after′ r → ClearedTo h (k + 1) r before after′
@@ -65,7 +66,7 @@ module _ {h : Plan} {k w : ℕ} {before after : List ℕ} (known : Planned h) (r
       count : {p : M.Plan} → Holds p h → WithoutFault p → r ≡ number p (k + 1)
       count {p} o f =
           let i : k < length (p .records) = omega (arith, o .count) in
-          rw (add-one k) (one-counted p k (firstOf (p .records) k) i (recordAt p k) refl (f .each k i) (rw (held-row o k i) at c) (u .count o f))
+          rw (add-one k) (one-counted p k (rowAt h k .first) i (recordAt p k) refl (f .each k i) (rw (held-row o k) at c) (u .count o f))
 
 pub cleared-all : {h : Plan} {k w : ℕ} {before after : List ℕ} → MOST-RECORDS ≤ length before → ClearedTo h k w before after → h .count ≤ k → GradesCleared h before after w
 cleared-all {h} {k} {w} {before} {after} room u l = record { count = count; written = written }
@@ -86,24 +87,21 @@ pub record GradesTo (h : Plan) (held : List ℕ) (y : ℕ) (d₀ d : List ℤ) (
   pub most : y ≤ TOP-LEVEL + 1
   pub size : length d ≡ length d₀
   pub long : length levels ≡ length levels₀
-  pub stage : {p : M.Plan} {g : ℕ} {before : List ℕ} → Kept p h held → y ≡ suc g → Stage p 0 0 d₀ before levels₀ → Stage p g 0 d before levels
+  pub stage : {p : M.Plan} {g : ℕ} {before : List ℕ} → InMemory p h held → y ≡ suc g → Stage p 0 0 d₀ before levels₀ → Stage p g 0 d before levels
 
 pub grades-none : {h : Plan} {held : List ℕ} {d : List ℤ} {levels : List ℕ} → GradesTo h held 1 d d levels levels
 grades-none {h} {held} {d} {levels} = record { some = omega arith; most = omega arith; size = refl; long = refl; stage = stage }
   where
-    stage : {p : M.Plan} {g : ℕ} {before : List ℕ} → Kept p h held → 1 ≡ suc g → Stage p 0 0 d before levels → Stage p g 0 d before levels
+    stage : {p : M.Plan} {g : ℕ} {before : List ℕ} → InMemory p h held → 1 ≡ suc g → Stage p 0 0 d before levels → Stage p g 0 d before levels
     stage {p} {g} o e s = let z : g ≡ 0 = omega arith in rw z s
 
--- what is kept of a plan that is ready, and the stage before grade 1
+-- the stage before grade 1
 module _ {p : M.Plan} {h : Plan} {held : List ℕ} {d : List ℤ} (o : Ready p h held d) where
-  ready-kept : Kept p h held
-  ready-kept = record { holds = o .holds; faultless = o .faultless; room = o .room; levels = o .levels }
-
   ready-stage : {before levels : List ℕ} {r : ℕ} → GradesCleared h before levels r → Stage p 0 0 d before levels
   ready-stage c = record {
     grades = replicate (wishes p) 0;
-    climbed = climb-start p (earliest (at d)) (stands-earliest (o .faultless .some) (o .stands));
-    written = c .written (o .holds) (o .faultless);
+    climbed = climb-start p (earliest (at d)) (stands-earliest (o .memory .faultless .some) (o .stands));
+    written = c .written (o .memory .holds) (o .memory .faultless);
     net = o .net;
     stands = stands-same (o .stands) (all-left p);
   }
@@ -114,19 +112,19 @@ module _ {h : Plan} {held : List ℕ} {y : ℕ} {d₀ d : List ℤ} {levels₀ l
       let e : y ≡ suc (y - 1) = omega (arith, u .some) in
       record {
         plan = a .plan;
-        kept = ready-kept (a .ready);
+        memory = a .ready .memory;
         grade = y - 1;
         next = e;
         top = l;
         before = before;
-        stage = u .stage (ready-kept (a .ready)) e (ready-stage (a .ready) c);
+        stage = u .stage (a .ready .memory) e (ready-stage (a .ready) c);
         room = omega (arith, a .room, u .long);
       }
 
   pub grades-next : {d′ : List ℤ} {levels′ : List ℕ} → y ≤ TOP-LEVEL → Graded h held y d d′ levels levels′ → length d′ ≡ length d → length levels′ ≡ length levels → GradesTo h held (y + 1) d₀ d′ levels₀ levels′
   grades-next {d′} {levels′} l c size long = record { some = omega arith; most = omega arith; size = size ∙ u .size; long = long ∙ u .long; stage = stage }
     where
-      stage : {p : M.Plan} {g : ℕ} {before : List ℕ} → Kept p h held → y + 1 ≡ suc g → Stage p 0 0 d₀ before levels₀ → Stage p g 0 d′ before levels′
+      stage : {p : M.Plan} {g : ℕ} {before : List ℕ} → InMemory p h held → y + 1 ≡ suc g → Stage p 0 0 d₀ before levels₀ → Stage p g 0 d′ before levels′
       stage {p} {g} o e s =
           let z : g ≡ y = omega arith in
           let n : y ≡ suc (y - 1) = omega (arith, u .some) in
@@ -135,5 +133,5 @@ module _ {h : Plan} {held : List ℕ} {y : ℕ} {d₀ d : List ℤ} {levels₀ l
   pub grades-all : {before : List ℕ} {r : ℕ} → TOP-LEVEL < y → GradesCleared h before levels₀ r → (p : M.Plan) → Ready p h held d₀ → Climbed p d before levels r
   grades-all l c p o =
       let e : y ≡ suc TOP-LEVEL = omega (arith, u .most) in
-      let s = u .stage (ready-kept o) e (ready-stage o c) in
-      record { grades = s .grades; climbed = s .climbed; count = c .count (o .holds) (o .faultless); written = s .written; net = s .net; stands = s .stands }
+      let s = u .stage (o .memory) e (ready-stage o c) in
+      record { grades = s .grades; climbed = s .climbed; count = c .count (o .memory .holds) (o .memory .faultless); written = s .written; net = s .net; stands = s .stands }

@@ -1,5 +1,4 @@
 -- The laws that belong to no one function: the plan in memory, the list of bounds, the climb; `Settles` joins them to the promise.
-pub mod Memory
 pub mod Lists
 pub mod Tries
 pub mod Places

@@ -16,7 +16,8 @@ use Rattle.meaning.specs.Bounds.{Bound, upper, lower, horizonUpper, horizonLowe
 use Rattle.meaning.proofs.Faultless.{GoodRecord}
 use Rattle.plan.specs.declared.Plan.{Plan}
 use Rattle.plan.specs.declared.Record.{Record as Row}
-use Rattle.plan.specs.Held.{rowOf, rowsOf, blank, levelsIn, Holds}
+use Rattle.plan.specs.Held.{rowOf, blank}
+use Rattle.plan.proofs.Use.{held-row}
 use Rattle.chain.specs.declared.Bound.{Bound as Entry}
 use Rattle.chain.specs.Clash.{MOST-BOUNDS, boundOf, listed}
 use Rattle.solver.specs.Listed.{Planned, Listed}
@@ -54,32 +55,19 @@ records-more k (r ∷ rs) (suc i) j e h = ap {B = List Bound} (λ l. upper k r �
 
 -- ---- a record as it stands in memory
 
--- its levels stand from some place on
-pub record RowAt (r : M.Record) (row : Row) : Type 0 where
-  pub first : ℕ
-  pub is : row ≡ rowOf first r
-
-rows-at : (at : ℕ) (rs : List M.Record) (k : ℕ) → k < length rs → RowAt (getD rs k M.nothing) (getD (rowsOf at rs) k blank)
-rows-at at [] k h = absurd (not-suc-le-zero h)
-rows-at at (r ∷ rs) zero h = record { first = at; is = refl }
-rows-at at (r ∷ rs) (suc k) h = rows-at (at + length (levelsIn r)) rs k (le-of-suc-le-suc h)
-
-pub held-row : {p : M.Plan} {h : Plan} → Holds p h → (k : ℕ) → k < length (p .records) → RowAt (M.recordAt p k) (getD (h .records) k blank)
-held-row {p} s k l = rw (s .rows k) (rows-at 0 (p .records) k l)
-
 -- its entries are its bounds
-pub entry-upper : {r : M.Record} {row : Row} (k : ℕ) → RowAt r row → boundOf (upperEntry k row) ≡ upper k r
-entry-upper k a = ap (λ (x : Row). boundOf (upperEntry k x)) (a .is)
+pub entry-upper : (r : M.Record) {row : Row} (k : ℕ) → row ≡ rowOf (row .first) r → boundOf (upperEntry k row) ≡ upper k r
+entry-upper r k e = ap (λ (x : Row). boundOf (upperEntry k x)) e
 
-pub entry-lower : {r : M.Record} {row : Row} (k : ℕ) → RowAt r row → boundOf (lowerEntry k row) ≡ lower k r
-entry-lower k a = ap (λ (x : Row). boundOf (lowerEntry k x)) (a .is)
+pub entry-lower : (r : M.Record) {row : Row} (k : ℕ) → row ≡ rowOf (row .first) r → boundOf (lowerEntry k row) ≡ lower k r
+entry-lower r k e = ap (λ (x : Row). boundOf (lowerEntry k x)) e
 
 -- the negative of its lo fits 32 bits
-low-fits : {n : ℕ} {r : M.Record} {row : Row} → GoodRecord n r → RowAt r row → SFits w32 (negℤ (row .lo))
-low-fits {r = r} g a = rw (a .is) (omega (ticks, g .lowest, g .ordered, g .highest))
+low-fits : {n : ℕ} {r : M.Record} {row : Row} → GoodRecord n r → row ≡ rowOf (row .first) r → SFits w32 (negℤ (row .lo))
+low-fits {r = r} g e = rw e (omega (ticks, g .lowest, g .ordered, g .highest))
 
 pub row-fits : {h : Plan} → Planned h → (k : ℕ) → k < h .count → SFits w32 (negℤ (getD (h .records) k blank .lo))
-row-fits s k l = let m : k < length (s .plan .records) = omega (arith, s .holds .count) in low-fits (s .faultless .each k m) (held-row (s .holds) k m)
+row-fits s k l = let m : k < length (s .plan .records) = omega (arith, s .holds .count) in low-fits (s .faultless .each k m) (held-row (s .holds) k)
 
 -- ---- the two loops
 
@@ -104,11 +92,11 @@ pub records-none : {list : List Entry} {base : ℕ} {rs : List M.Record} → len
 records-none {list} {base} l = let e : base + 0 ≡ base = omega arith in record { front = record { long = l; bounds = rw e (sym (append-nil (listed list base))) } }
 
 pub records-next : {list₀ list : List Entry} {base k : ℕ} {rs : List M.Record} (row : Row) → RecordsSoFar list₀ base rs list k → k < length rs → base + 2 * k + 2 ≤ MOST-BOUNDS →
-    RowAt (getD rs k M.nothing) row → RecordsSoFar list₀ base rs (set (set list (base + 2 * k) (upperEntry k row)) (base + 2 * k + 1) (lowerEntry k row)) (k + 1)
+    row ≡ rowOf (row .first) (getD rs k M.nothing) → RecordsSoFar list₀ base rs (set (set list (base + 2 * k) (upperEntry k row)) (base + 2 * k + 1) (lowerEntry k row)) (k + 1)
 records-next {list₀} {list} {base} {k} {rs} row f l room at = record {
   front =
       rw (add-one k, records-more 0 rs k k (omega arith) l, ← append-assoc (listed list₀ base) (recordBounds 0 (take k rs)) (upper k (getD rs k M.nothing) ∷ lower k (getD rs k M.nothing) ∷ []))
-      (front-two (base + 2 * k) (base + 2 * k + 1) (base + 2 * suc k) (upperEntry k row) (lowerEntry k row) (f .front) refl refl (omega arith) (omega arith) (entry-upper k at) (entry-lower k at));
+      (front-two (base + 2 * k) (base + 2 * k + 1) (base + 2 * suc k) (upperEntry k row) (lowerEntry k row) (f .front) refl refl (omega arith) (omega arith) (entry-upper (getD rs k M.nothing) k at) (entry-lower (getD rs k M.nothing) k at));
 }
 
 pub records-all : {list₀ list : List Entry} {base k : ℕ} {rs : List M.Record} → RecordsSoFar list₀ base rs list k → k ≡ length rs → Front list (base + 2 * length rs) (listed list₀ base ++ recordBounds 0 rs)

@@ -2,13 +2,13 @@
 -- only, and that idle versions are excluded (document 01, section 9).
 use mathlib.Core.Path.{_≡_, refl, sym, ap, ap₂, subst, _∙_}
 use mathlib.Core.Logic.{_↔_, _⊎_, inl, inr}
-use mathlib.Core.Bool.{Bool, true, false, cond, true≢false}
+use mathlib.Core.Bool.{true, cond}
 use mathlib.Core.List.{List, [], _∷_, List·Memᴰ, List·Memᴰ·head, List·Memᴰ·tail}
-use Prim.Native.Nat.{ℕ, _≤_, _<_}
+use Prim.Native.Nat.{ℕ, _<_}
 use native.Mathlib.Omega.{arith}
 use lib.IntN.{ℤ, pos}
 use Rattle.meaning.specs.Plan.{Plan, Times, Timetable, levels, wishes}
-use Rattle.meaning.specs.Reading.{Reading, plan, refused, read}
+use Rattle.meaning.specs.Reading.{plan, refused, read}
 use Rattle.meaning.specs.Ladder.{Fair, Pareto, Highest}
 use Rattle.meaning.specs.Outcome.{Outcome, solved, none, refusal, number, place, at, Solved, Right, Areas, longEnough, heard, over, written, Promise}
 use Rattle.meaning.specs.Known.{Known, bytes, table}

@@ -1,14 +1,15 @@
 -- The run of a grade found in the area of all levels: one level more is below the grade, and both ends together are the run of the wish's own levels.
-use mathlib.Core.Path.{_≡_, _∙_}
+use mathlib.Core.Path.{_≡_}
 use mathlib.Core.List.{List}
 use Prim.Native.Nat.{ℕ, _+_, _-_, _≤_, _<_}
 use native.Mathlib.Decide.{ℕ-discrete, decLt}
 use native.Mathlib.Omega.{arith}
 use lib.ListN.{length, getD}
-use lib.Seq.{slice, length-slice, getD-drop, getD-take}
+use lib.Seq.{slice, length-slice}
 use borrow.Author.Count.{below-more}
 use Rattle.meaning.proofs.Run.{Run}
 use Rattle.meaning.proofs.Peaks.{past-end}
+use Rattle.text.proofs.Slices.{slice-at}
 use Rattle.plan.specs.declared.Record.{Record}
 use Rattle.solver.specs.Climbing.{Under, RunFirst, RunPast, levelsAt}
 
@@ -32,9 +33,6 @@ pub under-part : {held : List ℕ} {from to from′ to′ y : ℕ} → Under hel
 under-part u l m = record { each = λ k p q. u .each k (omega arith) (omega arith) }
 
 -- ---- the levels of one wish, in the area of all
-
-pub slice-at : (s : List ℕ) (f end i : ℕ) → f + i < end → getD (slice f end s) i 0 ≡ getD s (f + i) 0
-slice-at s f end i h = getD-drop f _ i 0 ∙ getD-take end s (f + i) 0 h
 
 -- the ends found in the area, counted from where the wish's levels begin
 run-found : {held : List ℕ} {f end y first past : ℕ} → 1 ≤ y → f ≤ end → end ≤ length held → RunFirst held f end y first → RunPast held f end y past →

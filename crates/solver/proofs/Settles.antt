@@ -1,16 +1,15 @@
 -- From what the parts of `settle` and `solve` promise one another to the outcome of a plan, and from that to the promise.
 use mathlib.Core.Path.{_≡_, refl, sym, ap, _∙_}
-use mathlib.Core.Bool.{Bool, true, false, cond, _&&_}
+use mathlib.Core.Bool.{false}
 use mathlib.Core.List.{List}
 use Prim.Native.Nat.{ℕ, zero, suc, _+_, _*_, _-_, _≤_, _<_}
 use native.Mathlib.Omega.{arith}
-use lib.Dec.{leb}
 use lib.ListN.{length}
 use lib.IntN.{ℤ, pos}
 use borrow.Author.Tests.{le-leb, lt-leb}
 use Rattle.meaning.specs.Plan as M
 use Rattle.meaning.specs.Plan.{MOST-EVENTS, MOST-RECORDS, MOST-LEVELS-TOGETHER}
-use Rattle.meaning.specs.Reading.{Reading, plan, refused, read}
+use Rattle.meaning.specs.Reading.{plan, refused, read}
 use Rattle.meaning.specs.Distances.{earliest}
 use Rattle.meaning.specs.Outcome as O
 use Rattle.meaning.specs.Outcome.{Areas, areas, longEnough, heard}
@@ -21,10 +20,9 @@ use Rattle.meaning.proofs.Refusals.{refused-number}
 use Rattle.meaning.proofs.Solve.{earliest-solved}
 use Rattle.plan.specs.declared.Plan.{Plan}
 use Rattle.plan.specs.declared.Answer.{Answer}
-use Rattle.plan.specs.declared.Verdict.{Verdict}
 use Rattle.plan.specs.declared.Verdict.the-variants.{Taken, Refused}
-use Rattle.plan.specs.Held as H
-use Rattle.plan.specs.Held.{LevelsHeld, Read, verdictOf, planIn}
+use Rattle.plan.specs.Held.{Read, planIn}
+use Rattle.plan.proofs.Answers.{read-taken, read-holds, read-held}
 use Rattle.distances.specs.Matrix.{at, Started, Timing}
 use Rattle.distances.specs.Sweep.{Swept}
 use Rattle.distances.proofs.Sweep.{swept-written}
@@ -33,7 +31,8 @@ use Rattle.chain.specs.Clash.{listed, Broken, Found}
 use Rattle.solver.specs.Listed.{Listed}
 use Rattle.solver.specs.Tried.{Trying, Tried}
 use Rattle.solver.specs.Climbed.{Ready, Climbed}
-use Rattle.solver.specs.Settled.{named, InMemory, Settled, Solves}
+use Rattle.solver.specs.Memory.{InMemory}
+use Rattle.solver.specs.Settled.{named, Settled, Solves}
 use Rattle.solver.specs.declared.Outcome.{Outcome}
 use Rattle.solver.specs.declared.Outcome.the-variants as Out
 use Rattle.solver.proofs.Ends.{Chained, start-net, start-trying, all-stands, clash-broken, found-chained}
@@ -66,10 +65,7 @@ module _ {p : M.Plan} {h : Plan} {held : List ℕ} {list : List Entry} (m : InMe
     settle-ready l =
         let e : r ≡ 2 * (p .events - 1) + 2 * length (p .records) = omega (arith, tried .high, rw (m .holds .events, m .holds .count) at l) in
         record {
-          holds = m .holds;
-          faultless = m .faultless;
-          room = m .room;
-          levels = m .levels;
+          memory = m;
           net = tried .net (start-net (m .faultless) s begun);
           stands = all-stands (m .faultless) s begun (rw e at tried);
         }
@@ -148,30 +144,7 @@ module _ (text : List ℕ) (ts : List ℤ) (ls cs : List ℕ) where
 
 -- ---- what the reader leaves
 
-verdict-plan : (r : Reading) → verdictOf r ≡ Taken → r ≡ plan (planIn r)
-verdict-plan (plan p) e = refl
-verdict-plan (refused k line) e = absurd (let z : _≡_ {A = ℕ} 0 1 = cc in omega arith)
-
-verdict-refused : (r : Reading) {k line : ℕ} → verdictOf r ≡ Refused k line → r ≡ refused k line
-verdict-refused (plan p) e = absurd (let z : _≡_ {A = ℕ} 0 1 = cc in omega arith)
-verdict-refused (refused m l) e = cc
-
-module _ {text before after : List ℕ} {a : Answer} (r : Read text before after a) (l : length before ≡ MOST-LEVELS-TOGETHER) where
-  read-heard : H.heard before text ≡ read text
-  read-heard = ap (λ b. cond b (read text) (refused 7 0)) (le-leb MOST-LEVELS-TOGETHER (length before) (omega arith))
-
-  pub read-refused : {k line : ℕ} → a .verdict ≡ Refused k line → read text ≡ refused k line
-  read-refused e = sym read-heard ∙ verdict-refused (H.heard before text) (sym (r .verdict) ∙ e)
-
-  pub read-taken : a .verdict ≡ Taken → read text ≡ plan (planIn (read text))
-  read-taken e = verdict-plan (read text) (ap verdictOf (sym read-heard) ∙ sym (r .verdict) ∙ e)
-
-  pub read-memory : a .verdict ≡ Taken → InMemory (planIn (read text)) (a .plan) after
-  read-memory e =
-      let v : LevelsHeld (planIn (H.heard before text)) before after = r .levels (omega arith) in
-      record {
-        holds = rw read-heard at (r .held);
-        faultless = read-faultless text (read-taken e);
-        room = omega (arith, v .long);
-        levels = rw read-heard at (v .done);
-      }
+pub read-memory : {text before after : List ℕ} {a : Answer} → Read text before after a → MOST-LEVELS-TOGETHER ≤ length before → a .verdict ≡ Taken → InMemory (planIn (read text)) (a .plan) after
+read-memory {text} r l e =
+    let v = read-held r l in
+    record { holds = read-holds r l; faultless = read-faultless text (read-taken r l e); room = omega (arith, v .long); levels = v .done }

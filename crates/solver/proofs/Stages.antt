@@ -18,14 +18,15 @@ use Rattle.meaning.proofs.Run.{Run}
 use Rattle.meaning.proofs.Faultless.{GoodRecord}
 use Rattle.meaning.proofs.Stands.{Stands, stands-same, stands-earliest}
 use Rattle.meaning.proofs.Solve.{Between}
-use Rattle.meaning.proofs.Wishes.{number, wish-number, next-wish, next-rule, climb-rule, climb-failed, climb-yes, climb-within, climb-no, climb-next}
+use Rattle.meaning.proofs.Wishes.{number, wish-number, wish-below, next-wish, next-rule, climb-rule, climb-failed, climb-yes, climb-within, climb-no, climb-next}
 use Rattle.plan.specs.declared.Record.{Record}
 use Rattle.plan.specs.declared.Plan.{Plan}
 use Rattle.plan.specs.Held.{levelsIn, rowOf, blank}
+use Rattle.plan.proofs.Use.{row-held}
 use Rattle.distances.specs.Matrix.{at, Net, Narrowing, Narrowed}
 use Rattle.distances.proofs.Net.{narrowed-means, narrowed-none}
-use Rattle.solver.specs.Climbing.{Asking, WishAnswered, WishClimbed, RecordAsking, RecordClimbed, Kept, Stage, Grading, Graded}
-use Rattle.solver.proofs.Memory.{wish-below, row-held}
+use Rattle.solver.specs.Memory.{InMemory}
+use Rattle.solver.specs.Climbing.{Asking, WishAnswered, WishClimbed, RecordAsking, RecordClimbed, Stage, Grading, Graded}
 use Rattle.solver.proofs.Asks.{narrowing}
 
 -- ---- the grades at the front of the levels
@@ -148,7 +149,7 @@ pub record Upto (h : Plan) (held : List ℕ) (y k w : ℕ) (d₀ d : List ℤ) (
   pub most : k ≤ h .count
   pub size : length d ≡ length d₀
   pub long : length levels ≡ length levels₀
-  pub stage : {p : M.Plan} {g : ℕ} {before : List ℕ} → Kept p h held → y ≡ suc g → Stage p g 0 d₀ before levels₀ → Stage p g k d before levels × (w ≡ number p k)
+  pub stage : {p : M.Plan} {g : ℕ} {before : List ℕ} → InMemory p h held → y ≡ suc g → Stage p g 0 d₀ before levels₀ → Stage p g k d before levels × (w ≡ number p k)
 
 pub upto-none : {h : Plan} {held : List ℕ} {y : ℕ} {d : List ℤ} {levels : List ℕ} → Upto h held y 0 0 d d levels levels
 upto-none = record { most = omega arith; size = refl; long = refl; stage = λ o e s. (s, refl) }
@@ -163,28 +164,28 @@ climbed-as en ex ey ew c = rw (en, ex, ey, ew) at c
 module _ {h : Plan} {held : List ℕ} {y k w n : ℕ} {d₀ d : List ℤ} {levels₀ levels : List ℕ} (asked : Grading h held y d₀ levels₀) (u : Upto h held y k w d₀ d levels₀ levels) (l : k < h .count) (events : n ≡ h .events) where
   pub upto-asks : RecordAsking n (getD (h .records) k blank) held y w d levels
   upto-asks =
-      let o = asked .kept in
+      let o = asked .memory in
       let s = u .stage o (asked .next) (asked .stage) in
       let i : k < length (asked .plan .records) = omega (arith, o .holds .count) in
-      let x = row-held o k i in
+      let x = row-held held (o .holds) (o .faultless) (o .room) (o .levels) k i in
       asking-as (events ∙ o .holds .events) (x .row) (asked .next) (s .1)
-      (record-asking (s .0) i held (x .first) (recordAt (asked .plan) k) refl (o .faultless .each k i) (omega (arith, o .faultless .few, asked .room, u .long)) (x .inside))
+      (record-asking (s .0) i held (getD (h .records) k blank .first) (recordAt (asked .plan) k) refl (o .faultless .each k i) (omega (arith, o .faultless .few, asked .room, u .long)) (x .inside))
 
   pub upto-next : {d′ : List ℤ} {levels′ : List ℕ} {r : ℕ} → RecordClimbed n (getD (h .records) k blank) held y w d d′ levels levels′ r → length d′ ≡ length d → length levels′ ≡ length levels → Upto h held y (k + 1) r d₀ d′ levels₀ levels′
   upto-next {d′} {levels′} {r} c size long = record { most = omega arith; size = size ∙ u .size; long = long ∙ u .long; stage = next }
     where
-      next : {p : M.Plan} {g : ℕ} {before : List ℕ} → Kept p h held → y ≡ suc g → Stage p g 0 d₀ before levels₀ → Stage p g (k + 1) d′ before levels′ × (r ≡ number p (k + 1))
+      next : {p : M.Plan} {g : ℕ} {before : List ℕ} → InMemory p h held → y ≡ suc g → Stage p g 0 d₀ before levels₀ → Stage p g (k + 1) d′ before levels′ × (r ≡ number p (k + 1))
       next {p} o e s₀ =
           let s = u .stage o e s₀ in
           let i : k < length (p .records) = omega (arith, o .holds .count) in
-          let x = row-held o k i in
+          let x = row-held held (o .holds) (o .faultless) (o .room) (o .levels) k i in
           rw (add-one k)
-          (record-next (s .0) i held (x .first) (omega (arith, asked .top)) (recordAt p k) refl (o .faultless .each k i) (x .levels) (x .inside) (climbed-as (events ∙ o .holds .events) (x .row) e (s .1) c))
+          (record-next (s .0) i held (getD (h .records) k blank .first) (omega (arith, asked .top)) (recordAt p k) refl (o .faultless .each k i) (x .levels) (x .inside) (climbed-as (events ∙ o .holds .events) (x .row) e (s .1) c))
 
 pub upto-all : {h : Plan} {held : List ℕ} {y k w : ℕ} {d₀ d : List ℤ} {levels₀ levels : List ℕ} → Upto h held y k w d₀ d levels₀ levels → h .count ≤ k → Graded h held y d₀ d levels₀ levels
 upto-all {h} {held} {y} {k} {w} {d₀} {d} {levels₀} {levels} u l = record { graded = all }
   where
-    all : {p : M.Plan} {g : ℕ} {before : List ℕ} → Kept p h held → y ≡ suc g → Stage p g 0 d₀ before levels₀ → Stage p y 0 d before levels
+    all : {p : M.Plan} {g : ℕ} {before : List ℕ} → InMemory p h held → y ≡ suc g → Stage p g 0 d₀ before levels₀ → Stage p y 0 d before levels
     all {p} {g} {before} o e s₀ =
         let i : k ≡ length (p .records) = omega (arith, o .holds .count, u .most) in
         let s : Stage p g (length (p .records)) d before levels = rw i at (u .stage o e s₀ .0) in

@@ -14,8 +14,7 @@ use lib.Signed.{leZ, _<ℤ_}
 use Rattle.ticks.proofs.Ticks.{ticks, sum, leZ-false}
 use Rattle.meaning.specs.Bounds.{Bound}
 use Rattle.meaning.proofs.Bounds.{Holds}
-use Rattle.meaning.proofs.Distances.{Distances}
-use Rattle.meaning.proofs.Walks.{Walks, walks-add}
+use Rattle.meaning.proofs.Walks.{walks-wider, walks-add}
 use Rattle.distances.specs.Matrix.{at, Adding, Added}
 use Rattle.distances.proofs.Net.{changed-adds, added-means}
 use Rattle.chain.specs.declared.Bound.{Bound as Entry}
@@ -27,18 +26,6 @@ use Rattle.solver.specs.Tried.{Trying, Tried}
 -- one more is the next
 pub listed-next : (list : List Entry) (m : ℕ) → m < length list → listed list (suc m) ≡ listed list m ++ (boundAt list m ∷ [])
 listed-next list m h = rw (take-suc list m none h) (map-append boundOf (take m list) (getD list m none ∷ []))
-
--- more bounds, no fewer walks
-pub walks-wider : {n : ℕ} {G F : Bound → Type 0} {D : Distances} → ((b : Bound) → G b → F b) → Walks n G D → Walks n F D
-walks-wider f W = record {
-  walk = λ hi hj. let w = W .walk hi hj in record {
-    steps = w .steps;
-    leads = w .leads;
-    sums = w .sums;
-    simple = w .simple;
-    known = λ b m. let k = w .known b m in record { given = f b (k .given); starts = k .starts; ends = k .ends; light = k .light };
-  };
-}
 
 -- ---- one after the other
 

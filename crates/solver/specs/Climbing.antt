@@ -8,7 +8,7 @@ use lib.Seq.{slice}
 use lib.IntN.{ℤ, pos, negℤ, _+ℤ_, _-ℤ_}
 use lib.Signed.{_≤ℤ_}
 use Rattle.meaning.specs.Plan as M
-use Rattle.meaning.specs.Plan.{Within, MOST-END, MOST-LEVELS, MOST-LEVELS-TOGETHER, MOST-RECORDS, TOP-LEVEL, wishes}
+use Rattle.meaning.specs.Plan.{Within, MOST-END, MOST-LEVELS, MOST-RECORDS, TOP-LEVEL, wishes}
 use Rattle.meaning.specs.Outcome.{over}
 use Rattle.meaning.proofs.Faultless.{WithoutFault}
 use Rattle.meaning.proofs.Stands.{Stands}
@@ -16,8 +16,9 @@ use Rattle.meaning.proofs.Wishes.{ClimbedTo, Left}
 use Rattle.meaning.proofs.Run.{Run}
 use Rattle.plan.specs.declared.Record.{Record}
 use Rattle.plan.specs.declared.Plan.{Plan}
-use Rattle.plan.specs.Held.{Holds, flat}
+use Rattle.plan.specs.Held.{Holds}
 use Rattle.distances.specs.Matrix.{at, Net, Narrowed}
+use Rattle.solver.specs.Memory.{InMemory}
 use Rattle.solver.specs.Climbed.{Ready}
 
 -- ---- the run of a grade, from place `at` up to `end`
@@ -96,13 +97,6 @@ pub record RecordClimbed (n : ℕ) (x : Record) (held : List ℕ) (y w : ℕ) (d
 
 -- ---- one grade
 
--- a plan without fault, and the levels of its wishes
-pub record Kept (p : M.Plan) (h : Plan) (held : List ℕ) : Type 0 where
-  pub holds : Holds p h
-  pub faultless : WithoutFault p
-  pub room : MOST-LEVELS-TOGETHER ≤ length held
-  pub levels : (i : ℕ) → i < MOST-LEVELS-TOGETHER → getD held i 0 ≡ getD (flat (p .records)) i 0
-
 -- g grades are done, and k records of the next
 pub record Stage (p : M.Plan) (g k : ℕ) (d : List ℤ) (before after : List ℕ) : Type 0 where
   pub grades : List ℕ
@@ -113,7 +107,7 @@ pub record Stage (p : M.Plan) (g k : ℕ) (d : List ℤ) (before after : List �
 
 pub record Grading (h : Plan) (held : List ℕ) (y : ℕ) (d : List ℤ) (levels : List ℕ) : Type 0 where
   pub plan : M.Plan
-  pub kept : Kept plan h held
+  pub memory : InMemory plan h held
   pub grade : ℕ
   pub next : y ≡ suc grade
   pub top : y ≤ TOP-LEVEL
@@ -122,7 +116,7 @@ pub record Grading (h : Plan) (held : List ℕ) (y : ℕ) (d : List ℤ) (levels
   pub room : MOST-RECORDS ≤ length levels
 
 pub record Graded (h : Plan) (held : List ℕ) (y : ℕ) (d d′ : List ℤ) (levels levels′ : List ℕ) : Type 0 where
-  pub graded : {p : M.Plan} {g : ℕ} {before : List ℕ} → Kept p h held → y ≡ suc g → Stage p g 0 d before levels → Stage p y 0 d′ before levels′
+  pub graded : {p : M.Plan} {g : ℕ} {before : List ℕ} → InMemory p h held → y ≡ suc g → Stage p g 0 d before levels → Stage p y 0 d′ before levels′
 
 -- ---- before the climb every wish is at grade 0
 

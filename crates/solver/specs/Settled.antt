@@ -1,17 +1,16 @@
 -- The outcome as document 01 numbers it, and the outcome of a plan in memory.
 use mathlib.Core.Path.{_≡_}
 use mathlib.Core.List.{List}
-use Prim.Native.Nat.{ℕ, zero, suc, _≤_, _<_}
-use lib.ListN.{length, getD}
+use Prim.Native.Nat.{ℕ, zero, suc, _≤_}
+use lib.ListN.{length}
 use lib.IntN.{ℤ}
 use Rattle.meaning.specs.Plan as M
-use Rattle.meaning.specs.Plan.{MOST-EVENTS, MOST-RECORDS, MOST-LEVELS-TOGETHER}
+use Rattle.meaning.specs.Plan.{MOST-EVENTS, MOST-RECORDS}
 use Rattle.meaning.specs.Reading.{plan}
 use Rattle.meaning.specs.Outcome as O
 use Rattle.meaning.specs.Outcome.{Areas, Right, number, place, written, Promise}
-use Rattle.meaning.proofs.Faultless.{WithoutFault}
 use Rattle.plan.specs.declared.Plan.{Plan}
-use Rattle.plan.specs.Held.{Holds, flat}
+use Rattle.solver.specs.Memory.{InMemory}
 use Rattle.solver.specs.declared.Outcome.{Outcome}
 use Rattle.solver.specs.declared.Outcome.the-variants.{Solved, NoTimetable, Refused}
 
@@ -31,13 +30,6 @@ abbrev pub named : ℕ → ℕ → Outcome
 named zero w = Solved w
 named (suc zero) steps = NoTimetable steps
 named (suc (suc k)) line = Refused (suc (suc k)) line
-
--- a plan without fault in memory
-pub record InMemory (p : M.Plan) (h : Plan) (held : List ℕ) : Type 0 where
-  pub holds : Holds p h
-  pub faultless : WithoutFault p
-  pub room : MOST-LEVELS-TOGETHER ≤ length held
-  pub levels : (i : ℕ) → i < MOST-LEVELS-TOGETHER → getD held i 0 ≡ getD (flat (p .records)) i 0
 
 pub record Settling (h : Plan) (held : List ℕ) (times : List ℤ) (levels chain : List ℕ) : Type 0 where
   pub plan : M.Plan

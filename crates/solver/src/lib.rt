@@ -1,7 +1,7 @@
 // The solver: the list of bounds, the climb, and the entry point with the promise.
 ghost use mathlib.Core.Path.{_≡_};
 ghost use mathlib.Core.List.{_++_};
-ghost use Prim.Native.Nat.{ℕ, _+_, _*_, _-_, _≤_, _<_};
+ghost use Prim.Native.Nat.{_+_, _*_, _-_, _≤_, _<_};
 ghost use lib.ListN.{length};
 ghost use lib.IntN.{pos, negℤ, _+ℤ_, _-ℤ_};
 ghost use mir.Syntax.{w32};
@@ -19,7 +19,8 @@ ghost use Rattle.solver.specs.Entries.{upperEntry, lowerEntry, Front, Ap
 ghost use Rattle.solver.specs.Tried.{Trying, Tried};
 ghost use Rattle.solver.specs.Climbed.{Ready, Climbed};
 ghost use Rattle.solver.specs.Climbing.{Span, RunFirst, RunPast, Reach, Asking, Asked, WishClimbed, RecordAsking, RecordClimbed, Grading, Graded, RecordCleared, GradesCleared, ToClimb};
-ghost use Rattle.solver.specs.Settled.{numberOf, placeOf, InMemory, Settling, Settled, Solves};
+ghost use Rattle.solver.specs.Memory.{InMemory};
+ghost use Rattle.solver.specs.Settled.{numberOf, placeOf, Settling, Settled, Solves};
 use chain::Bound;
 use chain::MOST_BOUNDS;
 use plan::Plan;

@@ -7,7 +7,7 @@ use mathlib.Core.List.{List, [], _∷_}
 use native.Mathlib.Nat.{pow-le-pow-right, add-zero, zero-add}
 use native.Mathlib.Omega.{arith}
 use borrow.Author.Tests.{eq-eqb, ne-eqb, leb-true}
-use lib.Dec.{leb, eqb}
+use lib.Dec.{leb}
 use lib.ListN.{length, getD}
 use lib.Seq.{slice, slice-empty}
 use lib.IntN.{ℤ, pos, negℤ}
@@ -116,24 +116,3 @@ small-neg v h = record { least = omega ticks; most = omega ticks }
 
 pub pos-bits : (v : ℕ) → v < 10000000 → toZ w32 v ≡ pos v
 pos-bits v h = toZ-pos w32 (omega arith)
-
-plus-small : (o : Option ℕ) (z : ℤ) → ((v : ℕ) → o ≡ some v → v < 10000000) → plus o ≡ some z → Small z
-plus-small none z h q = let w : _≡_ {A = ℕ} 0 1 = cc in absurd (omega arith)
-plus-small (some v) z h q = let e : pos v ≡ z = cc in rw (← e) (small-pos v (h v refl))
-
-minus-small : (o : Option ℕ) (z : ℤ) → ((v : ℕ) → o ≡ some v → v < 10000000) → minus o ≡ some z → Small z
-minus-small none z h q = let w : _≡_ {A = ℕ} 0 1 = cc in absurd (omega arith)
-minus-small (some v) z h q = at (eqb v 0) q
-  where
-    at : (t : Bool) → cond t none (some (negℤ (pos v))) ≡ some z → Small z
-    at true q = let w : _≡_ {A = ℕ} 0 1 = cc in absurd (omega arith)
-    at false q = let e : negℤ (pos v) ≡ z = cc in rw (← e) (small-neg v (h v refl))
-
-pub number-small : (f : List ℕ) (z : ℤ) → numberOf f ≡ some z → Small z
-unfolding numberOf
-number-small [] z q = let w : _≡_ {A = ℕ} 0 1 = cc in absurd (omega arith)
-number-small (x ∷ xs) z q = at (eqb x 45) q
-  where
-    at : (t : Bool) → cond t (minus (digitsOf xs)) (plus (digitsOf (x ∷ xs))) ≡ some z → Small z
-    at true q = minus-small (digitsOf xs) z (digits-small xs) q
-    at false q = plus-small (digitsOf (x ∷ xs)) z (digits-small (x ∷ xs)) q

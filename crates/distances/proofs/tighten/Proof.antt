@@ -1,5 +1,5 @@
 -- `distances::tighten` meets its contract: a bound that the matrix keeps already is passed over.
-use mathlib.Core.Path.{_≡_, sym, _∙_}
+use mathlib.Core.Path.{sym, _∙_}
 use mir.Facts.{toZ-ofZ}
 use mir.Syntax.{w32}
 use borrow.Author.Needs.{needs}

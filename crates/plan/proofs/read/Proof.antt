@@ -2,6 +2,7 @@
 use mathlib.Core.Path.{refl, sym, _∙_}
 use Rattle.meaning.specs.Reading.{plan, refused}
 use Rattle.plan.proofs.Steps.{lines}
+use Rattle.plan.specs.Held.{planIn}
 use Rattle.plan.proofs.Answers.{text-long, text-short, taken-plan, refused-is, held-from, cleared-again, read-short, read-as}
 use borrow.Author.Needs.{needs}
 use Rattle.plan.proofs.read.Statement.{statement}
@@ -46,9 +47,10 @@ same-length-2 c = search needs
 returns-3 : tie.Need-returns-3
 returns-3 c =
     let w = c .before .before .before .before .read-lines .ensures in
-    let found = taken-plan (lines (c .before .before .before .before .before .before .before .before .before .before .before .before .before .before .args .text .now)) (sym (c .enum-told .given .1) ∙ w .verdict) in
-    let image = w .found (found .0) (found .1) in
-    read-as (c .before .before .before .before .before .before .before .before .before .before .before .before .before .before .args .text .now) (c .before .before .before .before .before .before .before .before .before .before .before .before .before .before .args .levels .now) (c .before .before .before .before .read-lines .last .1 .0) (c .before .before .before .before .read-lines .result) (plan (found .0)) (c .before .before .before .before .before .before .before .before .before .before .before .if1 .left) ((text-short (c .before .before .before .before .before .before .before .before .before .before .before .before .before .before .args .text .now) (c .before .before .before .before .before .before .if2 .left)) ∙ found .1) (c .enum-told .given .1) (image .0) (held-from (found .0) (c .before .before .before .before .before .before .before .before .before .before .before .before .before .before .args .levels .now) (c .before .before .before .before .before .before .before .before .before .clear .last .0) (c .before .before .before .before .read-lines .last .1 .0) (c .before .before .before .before .before .before .before .before .before .clear .ensures) (image .1))
+    let p = planIn (lines (c .before .before .before .before .before .before .before .before .before .before .before .before .before .before .args .text .now)) in
+    let said = taken-plan (lines (c .before .before .before .before .before .before .before .before .before .before .before .before .before .before .args .text .now)) (sym (c .enum-told .given .1) ∙ w .verdict) in
+    let image = w .found p said in
+    read-as (c .before .before .before .before .before .before .before .before .before .before .before .before .before .before .args .text .now) (c .before .before .before .before .before .before .before .before .before .before .before .before .before .before .args .levels .now) (c .before .before .before .before .read-lines .last .1 .0) (c .before .before .before .before .read-lines .result) (plan p) (c .before .before .before .before .before .before .before .before .before .before .before .if1 .left) ((text-short (c .before .before .before .before .before .before .before .before .before .before .before .before .before .before .args .text .now) (c .before .before .before .before .before .before .if2 .left)) ∙ said) (c .enum-told .given .1) (image .0) (held-from p (c .before .before .before .before .before .before .before .before .before .before .before .before .before .before .args .levels .now) (c .before .before .before .before .before .before .before .before .before .clear .last .0) (c .before .before .before .before .read-lines .last .1 .0) (c .before .before .before .before .before .before .before .before .before .clear .ensures) (image .1))
 
 same-length-3 : tie.Need-same-length-3
 same-length-3 c = search needs

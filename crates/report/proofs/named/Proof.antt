@@ -1,7 +1,8 @@
 -- `report::named` meets its contract: codes below 512 name records, the others the horizon.
 use mathlib.Core.Path.{sym, _∙_}
 use borrow.Author.Needs.{needs}
-use Rattle.report.proofs.Names.{name-record, name-horizon, row-held}
+use Rattle.plan.proofs.Use.{held-row}
+use Rattle.report.proofs.Names.{name-record, name-horizon}
 use Rattle.report.proofs.named.Statement.{statement}
 use Rattle.report.proofs.named.Tie as tie
 
@@ -21,7 +22,7 @@ of-horizon-requires : tie.Need-of-horizon-requires
 of-horizon-requires c κs = search needs
 
 returns : tie.Need-returns
-returns c = λ p q. c .of-record .ensures p _ (row-held p (c .before .before .before .args .t1) _ q .1) ∙ sym (name-record p (c .before .before .before .args .c) (c .before .before .if1 .taken))
+returns c = λ p q. c .of-record .ensures p _ (held-row q _) ∙ sym (name-record p (c .before .before .before .args .c) (c .before .before .if1 .taken))
 
 returns-2 : tie.Need-returns-2
 returns-2 c = λ p q. c .of-horizon .ensures p (q .horizon) ∙ sym (name-horizon p (c .before .before .args .c) (c .before .if1 .left))

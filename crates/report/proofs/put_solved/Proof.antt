@@ -5,7 +5,7 @@ use mir.Syntax.{w64}
 use borrow.Author.Needs.{needs}
 use Rattle.meaning.specs.Plan.{MOST-EVENTS, MOST-RECORDS}
 use Rattle.ticks.proofs.Ticks.{back}
-use Rattle.solver.proofs.Memory.{wishes-few}
+use Rattle.meaning.proofs.Wishes.{wishes-few}
 use Rattle.report.proofs.Outcomes.{solved-put}
 use Rattle.report.proofs.put_solved.Statement.{statement}
 use Rattle.report.proofs.put_solved.Tie as tie

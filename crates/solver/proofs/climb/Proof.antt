@@ -16,7 +16,7 @@ abbrev μ-loop : tie.MeasureT-loop
 clear-grades-requires : tie.Need-clear-grades-requires Inv-loop μ-loop
 clear-grades-requires c κs =
     let a = c .before .before .before .pre in
-    (record { plan = a .plan; holds = a .ready .holds; faultless = a .ready .faultless }, a .room)
+    (record { plan = a .plan; holds = a .ready .memory .holds; faultless = a .ready .memory .faultless }, a .room)
 
 loop-holds : tie.Need-loop-holds Inv-loop μ-loop
 loop-holds c = grades-none

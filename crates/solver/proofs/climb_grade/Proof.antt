@@ -19,7 +19,7 @@ loop-holds c = upto-none
 -- a record of the plan is one of the array
 few : (c : tie.In-loop Inv-loop μ-loop) → c .before .loop .k < MOST-RECORDS
 few c =
-    let o = c .before .before .before .before .pre .kept in
+    let o = c .before .before .before .before .pre .memory in
     omega (arith, o .holds .count, o .faultless .few)
 
 mul-r : tie.Need-mul-r Inv-loop μ-loop

@@ -1,11 +1,8 @@
 -- `solver::settle` meets its contract: the bounds are added from the horizon on; where one fails the chain is the outcome, else the ladder is
 -- climbed and the least times are read off. Each step is a law of `Settles`.
-use Prim.Native.Nat.{ℕ, _≤_, _<_}
-use native.Mathlib.Omega.{arith}
 use borrow.Author.Needs.{needs}
-use lib.ListN.{length}
 use Rattle.meaning.specs.Plan as M
-use Rattle.solver.specs.Settled.{InMemory}
+use Rattle.solver.specs.Memory.{InMemory}
 use Rattle.solver.specs.Climbed.{Ready}
 use Rattle.solver.proofs.Settles.{settle-trying, settle-broken, settle-ready, settle-chained, chained-settled, climbed-timing, climbed-settled}
 use Rattle.solver.proofs.settle.Statement.{statement}

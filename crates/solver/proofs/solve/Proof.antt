@@ -1,9 +1,11 @@
 -- `solver::solve` meets its contract: an area too short, a refusal of the reader, or the outcome of the plan that was read.
-use mathlib.Core.Path.{_≡_, refl}
+use native.Mathlib.Nat.{le-refl}
 use borrow.Author.Needs.{needs}
+use Rattle.meaning.specs.Plan.{MOST-LEVELS-TOGETHER}
 use Rattle.meaning.specs.Reading.{read}
 use Rattle.plan.specs.Held.{planIn}
-use Rattle.solver.proofs.Settles.{times-short, levels-short, chain-short, refused-solves, settled-solves, read-refused, read-taken, read-memory}
+use Rattle.plan.proofs.Answers.{read-refused, read-taken}
+use Rattle.solver.proofs.Settles.{times-short, levels-short, chain-short, refused-solves, settled-solves, read-memory}
 use Rattle.solver.proofs.solve.Statement.{statement}
 use Rattle.solver.proofs.solve.Tie as tie
 
@@ -31,7 +33,7 @@ slice-aggregate-settle c = search needs
 settle-requires : tie.Need-settle-requires
 settle-requires c κs = record {
   plan = planIn (read (c .before .before .before .before .before .before .before .before .before .before .before .before .before .before .before .args .text .now));
-  memory = read-memory (c .before .before .before .before .before .before .before .read .ensures) refl (c .before .before .before .before .enum-told .given .1);
+  memory = read-memory (c .before .before .before .before .before .before .before .read .ensures) (le-refl MOST-LEVELS-TOGETHER) (c .before .before .before .before .enum-told .given .1);
   times-long = c .before .before .before .before .before .before .before .before .before .before .before .if1 .left;
   levels-long = c .before .before .before .before .before .before .before .before .before .before .if2 .left;
   chain-long = c .before .before .before .before .before .before .before .before .before .if3 .left;
@@ -53,11 +55,11 @@ returns-4 : tie.Need-returns-4
 returns-4 c =
     let r = c .before .before .before .before .before .before .before .before .before .before .before .before .before .read .ensures in
     let e = c .before .before .before .before .before .before .before .before .before .before .enum-told .given .1 in
-    settled-solves _ _ _ _ (c .before .before .before .before .before .before .before .before .before .before .before .before .before .before .before .before .before .if1 .left) (c .before .before .before .before .before .before .before .before .before .before .before .before .before .before .before .before .if2 .left) (c .before .before .before .before .before .before .before .before .before .before .before .before .before .before .before .if3 .left) (read-taken r refl e) (c .before .before .before .before .before .settle .ensures (planIn (read (c .before .before .before .before .before .before .before .before .before .before .before .before .before .before .before .before .before .before .before .before .before .args .text .now))) (read-memory r refl e))
+    settled-solves _ _ _ _ (c .before .before .before .before .before .before .before .before .before .before .before .before .before .before .before .before .before .if1 .left) (c .before .before .before .before .before .before .before .before .before .before .before .before .before .before .before .before .if2 .left) (c .before .before .before .before .before .before .before .before .before .before .before .before .before .before .before .if3 .left) (read-taken r (le-refl MOST-LEVELS-TOGETHER) e) (c .before .before .before .before .before .settle .ensures (planIn (read (c .before .before .before .before .before .before .before .before .before .before .before .before .before .before .before .before .before .before .before .before .before .args .text .now))) (read-memory r (le-refl MOST-LEVELS-TOGETHER) e))
 
 returns-5 : tie.Need-returns-5
 returns-5 c =
-    refused-solves _ _ _ _ (c .before .before .before .before .before .before .before .before .if1 .left) (c .before .before .before .before .before .before .before .if2 .left) (c .before .before .before .before .before .before .if3 .left) (read-refused (c .before .before .before .before .read .ensures) refl (c .before .verdict .given .1))
+    refused-solves _ _ _ _ (c .before .before .before .before .before .before .before .before .if1 .left) (c .before .before .before .before .before .before .before .if2 .left) (c .before .before .before .before .before .before .if3 .left) (read-refused (c .before .before .before .before .read .ensures) (le-refl MOST-LEVELS-TOGETHER) (c .before .verdict .given .1))
 
 pub solve-spec : {M : Type 1} → statement M
 solve-spec =

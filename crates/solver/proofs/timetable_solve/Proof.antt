@@ -1,5 +1,4 @@
 -- `solver::timetable_solve` meets its contract: what `solve` promises, by number and place.
-use mathlib.Core.Path.{_≡_}
 use borrow.Author.Needs.{needs}
 use Rattle.solver.proofs.timetable_solve.Statement.{statement}
 use Rattle.solver.proofs.timetable_solve.Tie as tie

@@ -4,7 +4,8 @@ use lib.ListN.{length}
 use native.Mathlib.Omega.{arith}
 use Rattle.meaning.specs.Plan as M
 use Rattle.plan.specs.Held.{Holds}
-use Rattle.solver.proofs.Lists.{RecordsSoFar, records-none, records-next, records-all, held-row, row-fits}
+use Rattle.plan.proofs.Use.{held-row}
+use Rattle.solver.proofs.Lists.{RecordsSoFar, records-none, records-next, records-all, row-fits}
 use Rattle.solver.proofs.with_records.Statement.{statement}
 use Rattle.solver.proofs.with_records.Tie as tie
 
@@ -68,7 +69,7 @@ loop-again c =
       omega arith,
       λ p s. let l : k < length (p .records) = omega (arith, s .count) in
           rw (c .before .record-upper .ensures, c .record-lower .ensures)
-          (records-next _ (c .before .before .before .before .loop .inv .1 p s) l (omega (arith, c .before .before .before .before .before .pre .room)) (held-row s k l)),
+          (records-next _ (c .before .before .before .before .loop .inv .1 p s) l (omega (arith, c .before .before .before .before .before .pre .room)) (held-row s k)),
     )
 
 returns : tie.Need-returns Inv-loop μ-loop

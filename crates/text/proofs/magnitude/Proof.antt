@@ -1,13 +1,13 @@
 -- `text::magnitude` meets its contract: one more than the number's negative less one, which fits also for the least number.
-use mathlib.Core.Path.{_≡_, refl, sym, ap, _∙_}
-use Prim.Native.Nat.{ℕ, zero, suc, _+_, _-_, _^_, _<_, _≤_}
+use mathlib.Core.Path.{_≡_, refl}
+use Prim.Native.Nat.{suc, _+_, _-_}
 use native.Mathlib.Omega.{arith}
 use lib.IntN.{ℤ, pos, negsuc, _+ℤ_, _-ℤ_, natAbs, negℤ}
 use lib.Signed.{_<ℤ_}
 use mir.Facts.{toZ-ofZ}
 use mir.Syntax.{w64}
 use mir.Val.{SFits}
-use Rattle.ticks.proofs.Ticks.{up, dn, ticks, sum, neg}
+use Rattle.ticks.proofs.Ticks.{ticks, sum, neg}
 use Rattle.text.proofs.Decimals.{whole-fits}
 use Rattle.text.proofs.magnitude.Statement.{statement}
 use Rattle.text.proofs.magnitude.Tie as tie

@@ -1,5 +1,4 @@
 -- `text::put_field` meets its contract: the tab, then the number.
-use Prim.Native.Nat.{ℕ, _+_}
 use native.Mathlib.Omega.{arith}
 use borrow.Author.Needs.{needs}
 use mir.Facts.{toZ-ofZ}

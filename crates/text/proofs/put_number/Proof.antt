@@ -2,16 +2,14 @@
 use mathlib.Core.Path.{_≡_, sym, ap, _∙_}
 use mathlib.Core.Bool.{true, false}
 use mathlib.Core.List.{List, [], _∷_}
-use Prim.Native.Nat.{ℕ, _+_, _^_, _≤_, _<_}
+use Prim.Native.Nat.{ℕ, _+_, _≤_}
 use native.Mathlib.Omega.{arith}
 use borrow.Author.Needs.{needs}
-use lib.IntN.{ℤ, pos, negsuc, natAbs}
+use lib.IntN.{ℤ, pos, natAbs}
 use lib.Signed.{ltZ, _<ℤ_}
 use lib.ListN.{length}
 use mir.Facts.{toZ-ofZ}
-use mir.Syntax.{w64}
-use mir.Val.{SFits}
-use Rattle.ticks.proofs.Ticks.{up, dn, ticks}
+use Rattle.ticks.proofs.Ticks.{ticks}
 use Rattle.text.specs.Written.{decimal, decimalZ, Wrote}
 use Rattle.text.proofs.Decimals.{decimal-below, decimal-above, above-zero, whole-fits}
 use Rattle.text.proofs.Writes.{wrote-then, wrote-as, wrote-long}
