@@ -1,6 +1,6 @@
 -- Sets of events, over numbers and any width: who is a member, how many there are, and the least, after `putIn`.
 use mathlib.Core.Path.{_≡_, refl, sym, ap, _∙_, subst}
-use mathlib.Core.Bool.{Bool, true, false, _||_}
+use mathlib.Core.Bool.{Bool, true, false, _||_, or-true}
 use Prim.Native.Nat.{ℕ, _+_, _^_, _≤_, _<_}
 use native.Mathlib.Omega.{arith}
 use lib.Dec.{eqb}
@@ -55,11 +55,7 @@ put-member s e f = at (eqb f e) refl
 
 -- what was in stays in
 pub put-keeps : (s e f : ℕ) → member s f ≡ true → member (putIn s e) f ≡ true
-put-keeps s e f h = put-member s e f ∙ ap (λ (t : Bool). eqb f e || t) h ∙ at (eqb f e)
-  where
-    at : (t : Bool) → (t || true) ≡ true
-    at true = refl
-    at false = refl
+put-keeps s e f h = put-member s e f ∙ ap (λ (t : Bool). eqb f e || t) h ∙ or-true (eqb f e)
 
 -- ---- how many
 

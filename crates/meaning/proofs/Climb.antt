@@ -53,10 +53,6 @@ module _ {A : Type 0} {S : A → Type 0} {lev : A → List ℕ} {w : ℕ} where
     pub fails-again : lv g k < y → (u : A) → Above S lev w g u → lv (lev u) k ≤ y
     fails-again f u a = omega (arith, r .waiting u a k (omega arith) h)
 
-    -- a wish is still climbing exactly where its level has the grade before
-    pub climbing : (a : A) → Above S lev w g a → (lv g k ≡ y) ↔ (y ≤ lv (lev a) k)
-    climbing a p = (λ e. omega (arith, r .waiting a p k (omega arith) h), λ l. omega (arith, r .waiting a p k (omega arith) h))
-
     here : lv (set g k (suc y)) k ≡ suc y
     here = getD-set-same g k (suc y) 0 (omega (arith, r .count))
 

@@ -15,6 +15,7 @@ pub mod Wishes
 pub mod Times
 -- a text's reading
 pub mod Faultless
+pub mod Tests
 pub mod ReadGood
 pub mod Refusals
 -- the known plans

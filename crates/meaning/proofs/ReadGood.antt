@@ -1,22 +1,23 @@
 -- A plan that is read from a text has no fault: each line that is taken adds one record that passed the tests, and so keeps the plan without fault.
-use mathlib.Core.Path.{_≡_, refl, ap, subst}
+use mathlib.Core.Path.{_≡_, refl, subst}
 use mathlib.Core.Option.{Option, none, some}
 use mathlib.Core.List.{List, [], _∷_, _++_, map}
-use mathlib.Core.Bool.{Bool, true, false, not, cond, _&&_, and-eq-true-iff}
+use mathlib.Core.Bool.{Bool, true, false, not, cond, _&&_}
 use Prim.Native.Nat.{ℕ, zero, suc, _+_, _-_, _≤_, _<_, suc-le-suc, zero-le}
 use native.Mathlib.Nat.{le-of-suc-le-suc, not-suc-le-zero}
 use native.Mathlib.Omega.{arith}
-use borrow.Author.Tests.{ltb-true, leb-true, eqb-false, le-leb}
+use borrow.Author.Tests.{ltb-true, leb-true, eqb-false}
 use lib.Dec.{leb, ltb, eqb}
 use lib.ListN.{length, getD, drop, length-append, length-drop, length-map}
-use lib.IntN.{ℤ, pos, negsuc, natAbs, _+ℤ_, _-ℤ_, negℤ}
-use lib.Signed.{leZ, ltZ, _≤ℤ_}
+use lib.IntN.{ℤ, pos, natAbs, _+ℤ_, _-ℤ_, negℤ}
+use lib.Signed.{leZ, _≤ℤ_}
 use Rattle.ticks.proofs.Ticks.{ticks, sum}
-use Rattle.meaning.specs.Plan.{Record, rule, wish, Plan, nothing, MOST-RECORDS, MOST-LEVELS, MOST-LEVELS-TOGETHER, MOST-HORIZON, MOST-EVENTS, MOST-END, MOST-BYTES, TOP-LEVEL}
+use Rattle.meaning.specs.Plan.{Record, rule, wish, Plan, nothing, MOST-RECORDS, MOST-LEVELS, MOST-LEVELS-TOGETHER, MOST-HORIZON, MOST-EVENTS, MOST-END, MOST-BYTES}
 use Rattle.meaning.specs.Peak.{peaked}
-use Rattle.meaning.specs.Reading.{Form, eventsLine, ruleLine, wishLine, wrong, eventsForm, ruleForm, wishForm, formOf, lineForm, same, numbers, split, EVENTS, RULE, WISH, TAB, LINE-FEED, between, isEvent, isEnd, isLevel, allLevels, inRange, sameEvent, lastOf, levelsTogether, withRecord, Step, taken, fault, unless, firstLine, laterLine, lineStep, plan, refused, empty, afterStep, readPieces, read, item}
+use Rattle.meaning.specs.Reading.{Form, eventsLine, ruleLine, wishLine, wrong, eventsForm, ruleForm, wishForm, formOf, lineForm, same, numbers, split, EVENTS, RULE, WISH, TAB, LINE-FEED, between, allLevels, inRange, sameEvent, lastOf, levelsTogether, withRecord, Step, taken, fault, unless, firstLine, laterLine, lineStep, plan, refused, empty, afterStep, readPieces, read, item}
 use Rattle.meaning.proofs.Faultless.{GoodRecord, WithoutFault}
 use Rattle.meaning.proofs.Peaks.{peaked-sound}
+use Rattle.meaning.proofs.Tests.{both, event-below, count-from, count-to, levels-mild, apart, in-range}
 
 -- ---- a form that a line has: a wish has a level
 
@@ -56,53 +57,7 @@ line-level l = go (split TAB l)
     go [] = tt
     go (w ∷ fs) = form-level w (numbers fs)
 
--- ---- what the tests say
-
-both : (a b : Bool) → (a && b) ≡ true → (a ≡ true) × (b ≡ true)
-both a b e = and-eq-true-iff a b .0 e
-
-event-below : (n : ℕ) (v : ℤ) → isEvent n v ≡ true → natAbs v < n
-event-below n (pos u) e = ltb-true u n (both (leZ (pos 0) (pos u)) (ltZ (pos u) (pos n)) e .1)
-event-below n (negsuc u) e = let z : _≡_ {A = ℕ} 0 1 = cc in absurd (omega arith)
-
--- numbers that are not below zero, as counts
-count-from : (m : ℕ) (v : ℤ) → leZ (pos m) v ≡ true → m ≤ natAbs v
-count-from m (pos u) e = leb-true m u e
-count-from m (negsuc u) e = let z : _≡_ {A = ℕ} 0 1 = cc in absurd (omega arith)
-
-count-to : (m l : ℕ) (v : ℤ) → between (pos l) (pos m) v ≡ true → natAbs v ≤ m
-count-to m l (pos u) e = leb-true u m (both (leZ (pos l) (pos u)) (leZ (pos u) (pos m)) e .1)
-count-to m l (negsuc u) e = let z : _≡_ {A = ℕ} 0 1 = cc in absurd (omega arith)
-
-levels-mild : (ls : List ℤ) → allLevels ls ≡ true → (i : ℕ) → getD (map natAbs ls) i 0 ≤ TOP-LEVEL
-levels-mild [] e i = zero-le
-levels-mild (l ∷ ls) e zero = count-to TOP-LEVEL 0 l (both (isLevel l) (allLevels ls) e .0)
-levels-mild (l ∷ ls) e (suc i) = levels-mild ls (both (isLevel l) (allLevels ls) e .1) i
-
-apart : (n : ℕ) (a b : ℤ) → isEvent n a ≡ true → isEvent n b ≡ true → not (sameEvent a b) ≡ true → natAbs a ≡ natAbs b → ⊥
-apart n (negsuc a) b ea eb d e = let z : _≡_ {A = ℕ} 0 1 = cc in omega arith
-apart n (pos a) (negsuc b) ea eb d e = let z : _≡_ {A = ℕ} 0 1 = cc in omega arith
-apart n (pos a) (pos b) ea eb d e =
-    let t : leb a b ≡ true = le-leb a b (omega arith) in
-    let u : leb b a ≡ true = le-leb b a (omega arith) in
-    let s : sameEvent (pos a) (pos b) ≡ true = and-eq-true-iff (leb a b) (leb b a) .1 (t, u) in
-    let z : _≡_ {A = ℕ} 0 1 = cc (ap not s) in omega arith
-
--- the two events and the two ends
-record Ranged (n : ℕ) (a b lo hi : ℤ) : Type 0 where
-  first : isEvent n a ≡ true
-  second : isEvent n b ≡ true
-  lowest : negℤ (pos MOST-END) ≤ℤ lo
-  highest : hi ≤ℤ pos MOST-END
-
-in-range : (n : ℕ) (a b lo hi : ℤ) → inRange n a b lo hi ≡ true → Ranged n a b lo hi
-in-range n a b lo hi e =
-    let e1 = both (isEvent n a) (isEvent n b && (isEnd lo && isEnd hi)) e in
-    let e2 = both (isEvent n b) (isEnd lo && isEnd hi) (e1 .1) in
-    let e3 = both (isEnd lo) (isEnd hi) (e2 .1) in
-    let l = both (leZ (negℤ (pos MOST-END)) lo) (leZ lo (pos MOST-END)) (e3 .0) .0 in
-    let h = both (leZ (negℤ (pos MOST-END)) hi) (leZ hi (pos MOST-END)) (e3 .1) .1 in
-    record { first = e1 .0; second = e2 .0; lowest = omega ticks; highest = omega ticks }
+-- ---- the end of a wish
 
 -- the last level's distance is a wish's hi
 last-high : (lo : ℤ) (ls : List ℤ) → 1 ≤ length ls → lastOf lo ls ≡ lo +ℤ pos (length (map natAbs ls)) -ℤ pos 1

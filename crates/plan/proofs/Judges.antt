@@ -1,6 +1,6 @@
 -- The faults of a line in their order: what the tests made so far say of `lineStep`.
 use mathlib.Core.Path.{_≡_, refl}
-use mathlib.Core.Bool.{Bool, true, false, cond, _&&_}
+use mathlib.Core.Bool.{Bool, true, false, cond, _&&_, and-false}
 use mathlib.Core.List.{List, [], map}
 use Prim.Native.Nat.{ℕ, _+_, _≤_, _<_}
 use native.Mathlib.Omega.{arith}
@@ -16,7 +16,6 @@ use Rattle.text.specs.declared.Word.{Word}
 use Rattle.plan.specs.declared.Fields.{Fields}
 use Rattle.plan.specs.declared.Line.{Line}
 use Rattle.plan.specs.Lines.{eventsFields, ruleFields, wishFields, wordForm, Numbers, Counts, Faulted, Says}
-use Rattle.plan.proofs.Tests.{and-false}
 
 -- a fault of a function that does not touch the area
 pub stays : (line : ℕ) (f : Form) (n count used : ℕ) (levels : List ℕ) (k : ℕ) → 0 < k → ((p : M.Plan) → Counts p n count used → lineStep line p f ≡ fault k)

@@ -1,7 +1,7 @@
 -- Two lists of bytes compared.
 use Prim.Native.Nat.{ℕ, suc, _+_, _≤_, _<_}
 use mathlib.Core.Path.{_≡_, refl, ap, _∙_}
-use mathlib.Core.Bool.{Bool, true, false, _&&_}
+use mathlib.Core.Bool.{Bool, true, false, _&&_, and-false}
 use mathlib.Core.List.{List, [], _∷_}
 use native.Mathlib.Numerals.{add-one}
 use native.Mathlib.Omega.{arith}
@@ -13,10 +13,6 @@ use Rattle.meaning.specs.Reading.{same, EVENTS, RULE, WISH}
 use Rattle.text.specs.Words.{wordOf}
 use Rattle.text.specs.declared.Word.the-variants.{Events, Rule, Wish, Other}
 use Rattle.text.proofs.Slices.{slice-step}
-
-and-false : (b : Bool) → b && false ≡ false
-and-false true = refl
-and-false false = refl
 
 pub same-length : (x y : List ℕ) → (length x ≡ length y → ⊥) → same x y ≡ false
 same-length [] [] h = absurd (h refl)

@@ -3,19 +3,21 @@ use Prim.Native.Nat.{_-_}
 use native.Mathlib.Omega.{arith}
 use lib.IntN.{pos, negℤ, _+ℤ_}
 use Rattle.meaning.specs.Plan.{MOST-END}
+use lib.Signed.{leZ}
 use mir.Syntax.{w32}
 use mir.Val.{SFits}
 use mir.Facts.{toZ-ofZ, toZ-pos}
 use borrow.Author.Needs.{needs}
 use Rattle.ticks.proofs.Ticks.{ticks}
-use Rattle.plan.proofs.Tests.{above, below}
+use Rattle.meaning.proofs.Tests.{both}
 use Rattle.plan.proofs.last_of.Statement.{statement}
 use Rattle.plan.proofs.last_of.Tie as tie
 
 fits : (c : tie.Start) → SFits w32 (c .args .lo +ℤ pos (c .args .n - 1))
 fits c =
-    let l = above (negℤ (pos MOST-END)) (pos MOST-END) (c .args .lo) (c .pre .0) in
-    let h = below (negℤ (pos MOST-END)) (pos MOST-END) (c .args .lo) (c .pre .0) in
+    let e = both (leZ (negℤ (pos MOST-END)) (c .args .lo)) (leZ (c .args .lo) (pos MOST-END)) (c .pre .0) in
+    let l = e .0 in
+    let h = e .1 in
     let n = c .pre .2 in
     omega ticks
 

@@ -1,16 +1,15 @@
 -- `plan::level_of` meets its contract: a level is at most 15.
 use native.Mathlib.Omega.{arith}
-use lib.IntN.{pos}
 use mir.Facts.{toZ-ofZ}
-use Rattle.plan.proofs.Tests.{above, below, sign, small}
+use Rattle.meaning.proofs.Tests.{count-to}
+use Rattle.plan.proofs.Tests.{sign}
 use borrow.Author.Needs.{needs}
 use Rattle.plan.proofs.level_of.Statement.{statement}
 use Rattle.plan.proofs.level_of.Tie as tie
 
 cast-result : tie.Need-cast-result
 cast-result c =
-    let s = sign 0 (c .args .v) (above (pos 0) (pos 15) (c .args .v) (c .pre)) in
-    rw (toZ-ofZ (c .fits .v)) (s, record { fits = omega (arith, small (c .args .v) 15 (below (pos 0) (pos 15) (c .args .v) (c .pre)) s) })
+    rw (toZ-ofZ (c .fits .v)) (sign 0 15 (c .args .v) (c .pre), record { fits = omega (arith, count-to 15 0 (c .args .v) (c .pre)) })
 
 returns : tie.Need-returns
 returns c = search needs

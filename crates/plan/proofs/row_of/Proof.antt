@@ -3,7 +3,8 @@ use mathlib.Core.Path.{_≡_}
 use native.Mathlib.Omega.{arith}
 use lib.IntN.{natAbs}
 use mir.Facts.{toZ-ofZ}
-use Rattle.plan.proofs.Tests.{range-a, range-b, event-sign, event-small}
+use Rattle.meaning.proofs.Tests.{event-below, in-range}
+use Rattle.plan.proofs.Tests.{event-sign}
 use borrow.Author.Needs.{needs}
 use Rattle.plan.proofs.row_of.Statement.{statement}
 use Rattle.plan.proofs.row_of.Tie as tie
@@ -15,16 +16,16 @@ b-is : (c : tie.After-size-of2) → c .size-of2 .result ≡ natAbs (c .before .b
 b-is c = rw (toZ-ofZ (c .before .before .fits .b)) at (c .size-of2 .ensures)
 
 size-of-requires : tie.Need-size-of-requires
-size-of-requires c κs = rw (toZ-ofZ (c .fits .a)) (event-sign (c .args .n) (c .args .a) (range-a (c .args .n) (c .args .a) (c .args .b) (c .args .lo) (c .args .hi) (c .pre .0)))
+size-of-requires c κs = rw (toZ-ofZ (c .fits .a)) (event-sign (c .args .n) (c .args .a) (in-range (c .args .n) (c .args .a) (c .args .b) (c .args .lo) (c .args .hi) (c .pre .0) .first))
 
 cast-t9 : tie.Need-cast-t9
-cast-t9 c = record { fits = omega (arith, a-is c, event-small (c .before .args .n) (c .before .args .a) (range-a (c .before .args .n) (c .before .args .a) (c .before .args .b) (c .before .args .lo) (c .before .args .hi) (c .before .pre .0)), c .before .pre .1) }
+cast-t9 c = record { fits = omega (arith, a-is c, event-below (c .before .args .n) (c .before .args .a) (in-range (c .before .args .n) (c .before .args .a) (c .before .args .b) (c .before .args .lo) (c .before .args .hi) (c .before .pre .0) .first), c .before .pre .1) }
 
 size-of-requires-2 : tie.Need-size-of-requires-2
-size-of-requires-2 c κs = rw (toZ-ofZ (c .before .fits .b)) (event-sign (c .before .args .n) (c .before .args .b) (range-b (c .before .args .n) (c .before .args .a) (c .before .args .b) (c .before .args .lo) (c .before .args .hi) (c .before .pre .0)))
+size-of-requires-2 c κs = rw (toZ-ofZ (c .before .fits .b)) (event-sign (c .before .args .n) (c .before .args .b) (in-range (c .before .args .n) (c .before .args .a) (c .before .args .b) (c .before .args .lo) (c .before .args .hi) (c .before .pre .0) .second))
 
 cast-t11 : tie.Need-cast-t11
-cast-t11 c = record { fits = omega (arith, b-is c, event-small (c .before .before .args .n) (c .before .before .args .b) (range-b (c .before .before .args .n) (c .before .before .args .a) (c .before .before .args .b) (c .before .before .args .lo) (c .before .before .args .hi) (c .before .before .pre .0)), c .before .before .pre .1) }
+cast-t11 c = record { fits = omega (arith, b-is c, event-below (c .before .before .args .n) (c .before .before .args .b) (in-range (c .before .before .args .n) (c .before .before .args .a) (c .before .before .args .b) (c .before .before .args .lo) (c .before .before .args .hi) (c .before .before .pre .0) .second), c .before .before .pre .1) }
 
 cast-t12 : tie.Need-cast-t12
 cast-t12 c = search needs

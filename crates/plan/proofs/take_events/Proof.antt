@@ -12,7 +12,8 @@ use mir.Syntax.{w32}
 use mir.Val.{SFits}
 use mir.Facts.{toZ-ofZ}
 use Rattle.meaning.specs.Reading.{between}
-use Rattle.plan.proofs.Tests.{above, below, sign, small}
+use Rattle.meaning.proofs.Tests.{count-to}
+use Rattle.plan.proofs.Tests.{sign}
 use Rattle.plan.proofs.Judges as J
 use borrow.Author.Needs.{needs}
 use Rattle.plan.proofs.take_events.Statement.{statement}
@@ -37,7 +38,7 @@ h-yes : (c : tie.Else4) → between (pos 0) (pos 100000) (getD (c .before .befor
 h-yes c = h-is (c .before) ∙ not-false _ (c .if4 .left)
 
 h-sign : (c : tie.Else4) → T (nonNeg (getD (c .before .before .before .before .before .before .before .before .args .t2 .first) 1 (pos 0)))
-h-sign c = sign 0 (getD (c .before .before .before .before .before .before .before .before .args .t2 .first) 1 (pos 0)) (above (pos 0) (pos 100000) (getD (c .before .before .before .before .before .before .before .before .args .t2 .first) 1 (pos 0)) (h-yes c))
+h-sign c = sign 0 100000 (getD (c .before .before .before .before .before .before .before .before .args .t2 .first) 1 (pos 0)) (h-yes c)
 
 n-size : (c : tie.After-size-of) → c .size-of .result ≡ natAbs (getD (c .before .before .before .before .before .before .before .before .before .args .t2 .first) 0 (pos 0))
 n-size c = rw (toZ-ofZ (fits-n (c .before .before .before .before .before .before))) at (c .size-of .ensures)
@@ -48,10 +49,10 @@ h-size c = rw (toZ-ofZ (fits-h (c .before .before .before .before .before .befor
 n-most : (c : tie.After-size-of) → c .size-of .result ≤ 64
 n-most c =
     let y = n-yes (c .before .before .before) in
-    rw (n-size c) (small (getD (c .before .before .before .before .before .before .before .before .before .args .t2 .first) 0 (pos 0)) 64 (below (pos 1) (pos 64) (getD (c .before .before .before .before .before .before .before .before .before .args .t2 .first) 0 (pos 0)) y) (sign 1 (getD (c .before .before .before .before .before .before .before .before .before .args .t2 .first) 0 (pos 0)) (above (pos 1) (pos 64) (getD (c .before .before .before .before .before .before .before .before .before .args .t2 .first) 0 (pos 0)) y)))
+    rw (n-size c) (count-to 64 1 (getD (c .before .before .before .before .before .before .before .before .before .args .t2 .first) 0 (pos 0)) y)
 
 h-most : (c : tie.After-size-of2) → c .size-of2 .result ≤ 100000
-h-most c = rw (h-size c) (small (getD (c .before .before .before .before .before .before .before .before .before .before .args .t2 .first) 1 (pos 0)) 100000 (below (pos 0) (pos 100000) (getD (c .before .before .before .before .before .before .before .before .before .before .args .t2 .first) 1 (pos 0)) (h-yes (c .before .before))) (h-sign (c .before .before)))
+h-most c = rw (h-size c) (count-to 100000 0 (getD (c .before .before .before .before .before .before .before .before .before .before .args .t2 .first) 1 (pos 0)) (h-yes (c .before .before)))
 
 returns : tie.Need-returns
 returns c = λ n count used levels. J.stays _ _ n count used levels 2 (omega arith) (λ p _. J.ev-line (c .before .args .line) (c .before .args .t2) p (c .if1 .taken))
@@ -78,7 +79,7 @@ returns-4 : tie.Need-returns-4
 returns-4 c = λ n count used levels. J.stays _ _ n count used levels 4 (omega arith) (λ p _. J.ev-step (c .before .before .before .before .before .before .before .before .args .line) (c .before .before .before .before .before .before .before .before .args .t2) p (c .before .before .before .before .before .before .before .if1 .left) (c .before .before .before .before .before .before .if2 .left) ∙ J.hd-h (getD (c .before .before .before .before .before .before .before .before .args .t2 .first) 0 (pos 0)) (getD (c .before .before .before .before .before .before .before .before .args .t2 .first) 1 (pos 0)) (n-yes (c .before .before)) (h-is (c .before) ∙ not-true _ (c .if4 .taken)))
 
 size-of-requires : tie.Need-size-of-requires
-size-of-requires c κs = rw (toZ-ofZ (fits-n (c .before .before .before .before .before))) (sign 1 (getD (c .before .before .before .before .before .before .before .before .args .t2 .first) 0 (pos 0)) (above (pos 1) (pos 64) (getD (c .before .before .before .before .before .before .before .before .args .t2 .first) 0 (pos 0)) (n-yes (c .before .before))))
+size-of-requires c κs = rw (toZ-ofZ (fits-n (c .before .before .before .before .before))) (sign 1 64 (getD (c .before .before .before .before .before .before .before .before .args .t2 .first) 0 (pos 0)) (n-yes (c .before .before)))
 
 size-of-requires-2 : tie.Need-size-of-requires-2
 size-of-requires-2 c κs = rw (toZ-ofZ (fits-h (c .before .before .before .before .before))) (h-sign (c .before))
