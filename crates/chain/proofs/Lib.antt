@@ -1,7 +1,10 @@
--- The laws of marking, of following the notes, and of the chain that they make.
+-- The laws of marking, of following the notes, of the chain that they make, and of walks over a lent list.
 pub mod Marks
 pub mod Trail
 pub mod Visit
 pub mod Close
 pub mod Codes
 pub mod Lead
+pub mod Lent
+pub mod Searched
+pub mod Taken
