@@ -12,10 +12,10 @@ use Rattle.chain.proofs.mark.Statement.{statement}
 use Rattle.chain.proofs.mark.Tie as tie
 
 abbrev Inv-loop : tie.InvT-loop
-Inv-loop list m d a b next₀ seen₀ next seen = Marked list d m a (bitsOf seen) next × (length next ≡ length next₀)
+Inv-loop list m d a b notes₀ seen₀ notes seen = Marked list d m a (bitsOf seen) notes × (length notes ≡ length notes₀)
 
 abbrev μ-loop : tie.MeasureT-loop
-μ-loop list m d a b next₀ seen₀ next seen = WIDTH - ones (bitsOf seen)
+μ-loop list m d a b notes₀ seen₀ notes seen = WIDTH - ones (bitsOf seen)
 
 empty-requires : tie.Need-empty-requires Inv-loop μ-loop
 empty-requires c κs = tt
@@ -26,7 +26,7 @@ put-requires c κs = let p = c .before .before .pre in omega (arith, p .to, p .t
 loop-holds : tie.Need-loop-holds Inv-loop μ-loop
 loop-holds c =
     let p = c .before .before .before .pre in
-    (record { tree = root (c .put .ensures ∙ ap (λ (x : ℕ). putIn x (c .before .before .before .args .a)) (c .before .empty .ensures)); room = p .room; low = p .low }, refl)
+    (record { tree = root (c .put .ensures ∙ ap (λ (x : ℕ). putIn x (c .before .before .before .args .a)) (c .before .empty .ensures)); notes = p .notes }, refl)
 
 has-requires : tie.Need-has-requires Inv-loop μ-loop
 has-requires c κs = let p = c .before .before .before .before .pre in omega (arith, p .from, p .table .events)

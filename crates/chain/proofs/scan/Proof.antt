@@ -14,10 +14,10 @@ use Rattle.chain.proofs.scan.Statement.{statement}
 use Rattle.chain.proofs.scan.Tie as tie
 
 abbrev Inv-loop : tie.InvT-loop
-Inv-loop m d a next₀ list seen₀ k₀ next seen k = Under list d m a (bitsOf seen₀) next₀ k (bitsOf seen) next
+Inv-loop m d a notes₀ list seen₀ k₀ notes seen k = Under list d m a (bitsOf seen₀) notes₀ k (bitsOf seen) notes
 
 abbrev μ-loop : tie.MeasureT-loop
-μ-loop m d a next₀ list seen₀ k₀ next seen k = m - k
+μ-loop m d a notes₀ list seen₀ k₀ notes seen k = m - k
 
 -- a bound's weight read back from its bits
 weight-back : {n u v : ℕ} {w : ℤ} → Fit n u v w → toZ w32 (ofZ w32 w) ≡ w
@@ -32,19 +32,12 @@ mul-b c = omega (arith, c .before .before .before .pre .given .inside)
 array-copy-out-b : tie.Need-array-copy-out-b Inv-loop μ-loop
 array-copy-out-b c = omega (arith, c .before .before .before .pre .given .inside)
 
-event-requires : tie.Need-event-requires Inv-loop μ-loop
-event-requires c κs = tt
-
-event-requires-2 : tie.Need-event-requires-2 Inv-loop μ-loop
-event-requires-2 c κs = tt
-
 look-requires : tie.Need-look-requires Inv-loop μ-loop
 look-requires c κs =
-    let s = c .before .before .before .before .before .before .before .before in
-    let h = c .before .before .before .before .before .before .loop in
+    let s = c .before .before .before .before .before .before in
+    let h = c .before .before .before .before .loop in
     let f = s .pre .given .fit (h .k) (omega arith) in
-    rw (c .before .before .before .event .ensures, c .before .before .event2 .ensures, weight-back f)
-    (record { n = s .pre .n; table = s .pre .table; fit = f; to = s .pre .to }, h .inv .marked .room)
+    rw (weight-back f) (record { n = s .pre .n; table = s .pre .table; fit = f; to = s .pre .to }, h .inv .marked .notes .room)
 
 add-k : tie.Need-add-k Inv-loop μ-loop
 add-k c = omega arith
@@ -55,11 +48,11 @@ loop-less c = omega arith
 loop-again : tie.Need-loop-again Inv-loop μ-loop
 loop-again c =
     let t = c .before .before .before in
-    let s = t .before .before .before .before .before .before .before .before in
-    let h = t .before .before .before .before .before .before .loop in
+    let s = t .before .before .before .before .before .before in
+    let h = t .before .before .before .before .loop in
     let f = s .pre .given .fit (h .k) (omega arith) in
-    let l = rw (t .before .before .before .event .ensures, t .before .before .event2 .ensures, weight-back f) at (c .before .before .look .ensures) in
-    under-step _ _ _ _ _ _ _ _ _ _ _ (h .inv) (omega arith) (omega (arith, s .pre .table .events, f .start)) l
+    let l = rw (weight-back f) at (c .before .before .look .ensures) in
+    under-step _ _ _ _ _ _ _ _ _ _ _ (h .inv) (omega arith) (omega (arith, s .pre .table .events, f .start)) (omega (arith, s .pre .table .events, f .end)) l
 
 same-length : tie.Need-same-length Inv-loop μ-loop
 same-length c = c .before .loop .inv .long
@@ -76,8 +69,6 @@ scan-spec =
     loop-holds
     mul-b
     array-copy-out-b
-    event-requires
-    event-requires-2
     look-requires
     add-k
     loop-less
