@@ -13,7 +13,7 @@ use Rattle.eventset.specs.Sets.{WIDTH, member, putIn}
 use Rattle.eventset.proofs.Laws.{put-same, put-keeps, count-fresh, one-member}
 use Rattle.chain.specs.declared.Bound.{Bound as Entry}
 use Rattle.chain.specs.Clash.{boundAt, TightAt, Lead, here, by}
-use Rattle.chain.specs.Marks.{Notes, Look, kept, marked, Grow, same, more, Tree, root, put, Marked, Scanned}
+use Rattle.chain.specs.Marks.{Notes, Look, LookAt, kept, marked, Grow, same, more, Tree, root, put, Marked, Scanned}
 use Rattle.chain.proofs.Notes.{length-note, notes-note}
 
 -- a test is not both
@@ -62,7 +62,7 @@ module _ (list : List Entry) (d : List ℤ) (m a : ℕ) where
 
   pub under-step : (s : ℕ) (nx₀ : List ℕ) (i r : ℕ) (nx : List ℕ) (r′ : ℕ) (nx′ : List ℕ) → Under s nx₀ i r nx → i < m
       → boundAt list i .start < WIDTH → boundAt list i .end < WIDTH
-      → Look d a (boundAt list i .start) (boundAt list i .end) (boundAt list i .weight) (boundAt list i .code) r nx r′ nx′ → Under s nx₀ (i + 1) r′ nx′
+      → LookAt list i d a r nx r′ nx′ → Under s nx₀ (i + 1) r′ nx′
   under-step s nx₀ i r nx r′ nx′ c l f g (kept p q h) = record {
     within = omega arith;
     long = ap length q ∙ c .long;

@@ -58,6 +58,13 @@ pub data Look (d : List ℤ) (a u v : ℕ) (w : ℤ) (c s : ℕ) (nx : List ℕ)
   kept : r ≡ s → nx′ ≡ nx → (Tight d a u v w → member s v ≡ true → member s u ≡ true) → Look d a u v w c s nx r nx′
   marked : member s u ≡ false → member s v ≡ true → Tight d a u v w → r ≡ putIn s u → nx′ ≡ note nx u v c → Look d a u v w c s nx r nx′
 
+-- the same of bound k of a list
+abbrev pub LookingAt : List Entry → ℕ → List ℤ → ℕ → Type 0
+LookingAt list k d a = Looking d a (boundAt list k .start) (boundAt list k .end) (boundAt list k .weight)
+
+abbrev pub LookAt : List Entry → ℕ → List ℤ → ℕ → ℕ → List ℕ → ℕ → List ℕ → Type 0
+LookAt list k d a s nx r nx′ = Look d a (boundAt list k .start) (boundAt list k .end) (boundAt list k .weight) (boundAt list k .code) s nx r nx′
+
 -- ---- all bounds
 
 -- s with more members

@@ -5,7 +5,7 @@ ghost use lib.ListN.{length};
 ghost use lib.Count.{ones};
 ghost use Rattle.eventset.specs.Sets.{WIDTH, bitsOf};
 ghost use Rattle.chain.specs.Clash.{Tight, listed, Broken, Found};
-ghost use Rattle.chain.specs.Marks.{NOTES, note as noteIn, Looking, Decided, Look, Scanning, Scanned, Marking, Reached, Visiting, Visited, Writing, Written};
+ghost use Rattle.chain.specs.Marks.{NOTES, note as noteIn, Looking, LookingAt, Decided, Look, LookAt, Scanning, Scanned, Marking, Reached, Visiting, Visited, Writing, Written};
 
 pub const MOST_BOUNDS: usize = 640;
 
@@ -67,8 +67,45 @@ fn look(
     eventset::put(seen, u)
 }
 
+// Reads bound k of the list and looks at it.
+fn look_at(
+    list: &[Bound],
+    k: usize,
+    d: &[i32],
+    a: usize,
+    seen: eventset::EventSet,
+    notes: &mut [u16],
+) -> eventset::EventSet
+    requires { ⌜ (k < length (now list)) × (LookingAt (now list) k (now d) a × (NOTES ≤ length (now notes))) ⌝ }
+    ensures { λ r. ⌜ LookAt (now (list .entry)) k (now (d .entry)) a (bitsOf seen) (now (notes .entry)) (bitsOf r) (now (notes .exit)) ⌝ }
+{
+    let b = list[k];
+    look(d, b.start, b.end, b.weight, b.code, a, seen, notes)
+}
+
 // One scan of the first m bounds.
 fn scan(
+    list: &[Bound],
+    m: usize,
+    d: &[i32],
+    a: usize,
+    from: eventset::EventSet,
+    notes: &mut [u16],
+) -> eventset::EventSet
+    requires { ⌜ Scanning (now list) (now d) m a (bitsOf from) (now notes) ⌝ }
+    ensures { λ r. ⌜ Scanned (now (list .entry)) (now (d .entry)) m a (bitsOf from) (bitsOf r) (now (notes .exit)) ⌝ }
+{
+    let mut seen = from;
+    let mut k = 0;
+    while k < m {
+        seen = look_at(list, k, d, a, seen, notes);
+        k += 1;
+    }
+    seen
+}
+
+// A scan of the list, lent: who calls this holds it by value.
+fn scan_listed(
     list: [Bound; MOST_BOUNDS],
     m: usize,
     d: &[i32],
@@ -79,12 +116,7 @@ fn scan(
     requires { ⌜ Scanning list (now d) m a (bitsOf from) (now notes) ⌝ }
     ensures { λ r. ⌜ Scanned list (now (d .entry)) m a (bitsOf from) (bitsOf r) (now (notes .exit)) ⌝ }
 {
-    let mut seen = from;
-    for k in 0..m {
-        let b = list[k];
-        seen = look(d, b.start, b.end, b.weight, b.code, a, seen, notes);
-    }
-    seen
+    scan(&list, m, d, a, from, notes)
 }
 
 // Marks events from a backwards until b is marked.
@@ -101,7 +133,7 @@ fn mark(
 {
     let mut seen = eventset::put(eventset::empty(), a);
     while !eventset::has(seen, b) {
-        seen = scan(list, m, d, a, seen, notes);
+        seen = scan_listed(list, m, d, a, seen, notes);
     }
     seen
 }

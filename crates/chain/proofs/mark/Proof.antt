@@ -31,8 +31,8 @@ loop-holds c =
 has-requires : tie.Need-has-requires Inv-loop μ-loop
 has-requires c κs = let p = c .before .before .before .before .pre in omega (arith, p .from, p .table .events)
 
-scan-requires : tie.Need-scan-requires Inv-loop μ-loop
-scan-requires c κs =
+scan-listed-requires : tie.Need-scan-listed-requires Inv-loop μ-loop
+scan-listed-requires c κs =
     let p = c .before .before .before .before .before .before .before .pre in
     record { n = p .n; given = p .given; table = p .table; to = p .to; marked = c .before .before .before .loop .inv .0 }
 
@@ -41,7 +41,7 @@ loop-less c =
     let h = c .before .before .before .before .before .before .loop in
     let q = c .before .before .before .before in
     let p = c .before .before .before .before .before .before .before .before .before .before .pre in
-    let r = c .before .before .scan in
+    let r = c .before .before .scan-listed in
     -- `.ok` has the range of the set's number
     omega (
       arith,
@@ -52,7 +52,7 @@ loop-less c =
 loop-again : tie.Need-loop-again Inv-loop μ-loop
 loop-again c =
     let h = c .before .before .before .before .before .before .loop in
-    (c .before .before .scan .ensures .marked, c .before .before .scan .kept .1 .1 .1 .1 .1 .0 ∙ h .inv .1)
+    (c .before .before .scan-listed .ensures .marked, c .before .before .scan-listed .kept .1 .1 .1 .1 .1 .0 ∙ h .inv .1)
 
 same-length : tie.Need-same-length Inv-loop μ-loop
 same-length c = c .before .before .loop .inv .1
@@ -70,7 +70,7 @@ mark-spec =
     put-requires
     loop-holds
     has-requires
-    scan-requires
+    scan-listed-requires
     loop-less
     loop-again
     same-length
