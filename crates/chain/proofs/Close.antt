@@ -4,10 +4,9 @@ use mathlib.Core.Path.{_≡_, refl, sym, ap, ap₂, _∙_, subst}
 use mathlib.Core.Bool.{true}
 use mathlib.Core.Logic.{⊎-elim}
 use mathlib.Core.List.{List, [], _∷_, _++_, map, List·Memᴰ, List·Memᴰ·head, List·Memᴰ·tail, List·Memᴰ·cases-cons, Memᴰ·cast, Memᴰ·map}
-use Prim.Native.Nat.{ℕ, zero, suc, _+_, _^_, _≤_, _<_}
+use Prim.Native.Nat.{ℕ, zero, suc, _+_, _*_, _^_, _≤_, _<_}
 use native.Mathlib.Omega.{arith}
-use lib.ListN.{length, getD, set, length-append, length-set}
-use lib.Seq.{getD-set-same, getD-set-other}
+use lib.ListN.{length, getD, length-append}
 use lib.IntN.{ℤ}
 use lib.Count.{ones, ones-le, trailingZeros}
 use Rattle.ticks.proofs.Ticks.{ticks, sum}
@@ -19,9 +18,10 @@ use Rattle.meaning.proofs.Walks.{Parted, part}
 use Rattle.meaning.proofs.Chains.{Loop, loop-turn, turned-back, starts-on-way, last-entered}
 use Rattle.chain.specs.declared.Bound.{Bound as Entry}
 use Rattle.chain.specs.Clash.{boundAt, listed, Fit, Broken, Found}
-use Rattle.chain.specs.Marks.{Marking, Reached, Noted, Path, Visiting, Events, way, Writing}
-use Rattle.chain.proofs.Marks.{low-set}
+use Rattle.chain.specs.Marks.{NOTES, note, Notes, Noted, Marking, Reached, Path, Visiting, Events, codesFrom, Writing}
+use Rattle.chain.proofs.Notes.{noted-other, noted-same, notes-note}
 use Rattle.chain.proofs.Trail.{Trail, trail}
+use Rattle.chain.proofs.Lead.{Place}
 
 pub listed-at : (list : List Entry) (m k : ℕ) → k < m → m ≤ length list → List·Memᴰ (boundAt list k) (listed list m)
 listed-at [] m k l h = absurd (omega arith)
@@ -29,20 +29,20 @@ listed-at (x ∷ xs) zero k l h = absurd (omega arith)
 listed-at (x ∷ xs) (suc m) zero l h = List·Memᴰ·head refl
 listed-at (x ∷ xs) (suc m) (suc k) l h = List·Memᴰ·tail (listed-at xs m k (omega arith) (omega arith))
 
--- a way whose bounds are noted at their starts is the one by the notes
-way-is : (list : List Entry) (nx : List ℕ) {e a : ℕ} {bs : List Bound} → Leads e bs a → ((x : Bound) → List·Memᴰ x bs → boundAt list (getD nx (x .start) 0) ≡ x)
-    → way list nx e (length bs) ≡ bs
-way-is list nx stop f = refl
-way-is list nx (step {b = b} {bs = bs} l) f =
-    ap (λ (y : Bound). y ∷ way list nx (y .end) (length bs)) (f b (List·Memᴰ·head refl))
-    ∙ ap {B = List Bound} (λ r. b ∷ r) (way-is list nx l (λ x i. f x (List·Memᴰ·tail i)))
+-- along a way whose bounds are noted at their starts the notes have its codes
+codes-are : (nx : List ℕ) {e a : ℕ} {bs : List Bound} → Leads e bs a → ((x : Bound) → List·Memᴰ x bs → Noted nx x) → codesFrom nx e (length bs) ≡ map (λ b. b .code) bs
+codes-are nx stop f = refl
+codes-are nx (step {b = b} {bs = bs} l) f =
+    let h = f b (List·Memᴰ·head refl) in
+    ap₂ (λ (c e : ℕ). c ∷ codesFrom nx e (length bs)) (h .code) (h .to)
+    ∙ ap {B = List ℕ} (λ r. b .code ∷ r) (codes-are nx l (λ x i. f x (List·Memᴰ·tail i)))
 
 module _ (list : List Entry) (d : List ℤ) (n m : ℕ) (nx : List ℕ) (broken : Broken list d n m) where
   abbrev β : Bound
   β = boundAt list m
 
   -- before any mark, all notes are 0
-  pub marking : WIDTH ≤ length nx → ((e : ℕ) → getD nx e 0 ≡ 0) → Marking list d m (β .start) (β .end) nx
+  pub marking : NOTES ≤ length nx → ((e : ℕ) → getD nx e 0 ≡ 0) → Marking list d m (β .start) (β .end) nx
   marking room none = record {
     n = n;
     given = record { long = broken .given .long; inside = omega (arith, broken .given .inside); fit = λ k l. broken .given .fit k (omega arith) };
@@ -50,13 +50,12 @@ module _ (list : List Entry) (d : List ℤ) (n m : ℕ) (nx : List ℕ) (broken 
     to = broken .given .fit m (omega arith) .start;
     from = broken .given .fit m (omega arith) .end;
     lead = broken .lead;
-    room = room;
-    low = λ e. omega (arith, none e);
+    notes = record { room = room; low = λ e. omega (arith, none (2 * e)) };
   }
 
   -- the notes with bound m at its start
   abbrev pub closed : List ℕ
-  closed = set nx (β .start) m
+  closed = note nx (β .start) (β .end) (β .code)
 
   start-low : {u v : ℕ} {w : ℤ} → Fit n u v w → u < WIDTH
   start-low f = omega (arith, broken .table .events, f .start)
@@ -65,37 +64,29 @@ module _ (list : List Entry) (d : List ℤ) (n m : ℕ) (nx : List ℕ) (broken 
   end-low f = omega (arith, broken .table .events, f .end)
 
   module _ (s : ℕ) (marked : Reached list d m (β .start) (β .end) s nx) where
-    start-inside : β .start < length nx
-    start-inside = omega (arith, start-low (broken .given .fit m (omega arith)), marked .marked .room)
-
-    closed-low : (e : ℕ) → getD closed e 0 < m + 1
-    closed-low e = omega (arith, low-set m nx (β .start) m start-inside (omega arith) (marked .marked .low) e)
+    pub start-inside : 2 * β .start + 1 < length nx
+    start-inside = omega (arith, start-low (broken .given .fit m (omega arith)), marked .marked .notes .room)
 
     pub way-back : Trail list d m (β .start) s nx (β .end)
     way-back = trail list d m (β .start) (β .end) (broken .self) (marked .marked .tree) (marked .reached)
 
-    pub closed-noted : Noted list closed
-    closed-noted = record {
-      n = n;
-      m = m + 1;
-      given = broken .given;
-      events = broken .table .events;
-      room = omega (arith, marked .marked .room, length-set nx (β .start) m);
-      low = closed-low;
-    }
+    pub closed-notes : Notes closed
+    closed-notes =
+        let f = broken .given .fit m (omega arith) in
+        notes-note nx (β .start) (β .end) (β .code) (start-low f) (end-low f) (marked .marked .notes)
 
-    pub closed-path : Path list closed (β .start) (β .end) (way-back .steps)
+    pub closed-path : Path closed (β .start) (β .end) (way-back .steps)
     closed-path = record {
       leads = way-back .leads;
       noted = λ x i.
           let p = way-back .each x i in
-          ap (boundAt list) (getD-set-other nx (β .start) (x .start) m 0 (p .apart)) ∙ p .noted;
+          noted-other nx (β .start) (β .end) (β .code) x (p .apart) (p .noted);
       simple = way-back .simple;
     }
 
-    pub visiting : Visiting list closed (β .start) (β .end)
+    pub visiting : Visiting closed (β .start) (β .end)
     visiting = record {
-      noted = closed-noted;
+      notes = closed-notes;
       from = end-low (broken .given .fit m (omega arith));
       to = start-low (broken .given .fit m (omega arith));
       steps = way-back .steps;
@@ -109,24 +100,34 @@ module _ (list : List Entry) (d : List ℤ) (n m : ℕ) (nx : List ℕ) (broken 
       abbrev round : List Bound
       round = β ∷ way-back .steps
 
-      -- each bound of the round is noted at its start, and its start visited
-      noted : (x : Bound) → List·Memᴰ x round → boundAt list (getD closed (x .start) 0) ≡ x
-      noted x i = ⊎-elim
-          (λ p. subst (λ (y : Bound). boundAt list (getD closed (y .start) 0) ≡ y) (sym p) (ap (boundAt list) (getD-set-same nx (β .start) m 0 start-inside)))
-          (closed-path .noted x) (List·Memᴰ·cases-cons i)
+      -- each bound of the round is listed and noted at its start, and its start visited
+      place : (x : Bound) → List·Memᴰ x round → Place list (m + 1) x
+      place x i = ⊎-elim
+          (λ p. record { place = m; low = omega arith; is = sym p })
+          (λ j.
+          let p = way-back .each x j .place in
+          record { place = p .place; low = omega (arith, p .low); is = p .is })
+          (List·Memᴰ·cases-cons i)
+
+      noted : (x : Bound) → List·Memᴰ x round → Noted closed x
+      noted x i = ⊎-elim (λ p. subst (Noted closed) (sym p) (noted-same nx β start-inside)) (closed-path .noted x) (List·Memᴰ·cases-cons i)
 
       visited : (x : Bound) → List·Memᴰ x round → member r (x .start) ≡ true
       visited x i = events .all (x .start) (⊎-elim (λ p. Memᴰ·cast (ap (λ (y : Bound). y .start) p) (last-entered (way-back .leads)))
           (λ j. starts-on-way (way-back .leads) (x .start) (Memᴰ·map (λ y. y .start) j)) (List·Memᴰ·cases-cons i))
 
       bound-fit : (x : Bound) → List·Memᴰ x round → Fit n (x .start) (x .end) (x .weight)
-      bound-fit x i = subst (λ (y : Bound). Fit n (y .start) (y .end) (y .weight)) (noted x i) (broken .given .fit (getD closed (x .start) 0) (closed-low (x .start)))
+      bound-fit x i =
+          let p = place x i in
+          subst (λ (y : Bound). Fit n (y .start) (y .end) (y .weight)) (p .is) (broken .given .fit (p .place) (p .low))
 
       loop : Loop (λ x. List·Memᴰ x (listed list (m + 1))) (β .start) round
       loop = record {
         closed = step (way-back .leads);
-        given = λ x i. subst (λ (y : Bound). List·Memᴰ y (listed list (m + 1))) (noted x i)
-            (listed-at list (m + 1) (getD closed (x .start) 0) (closed-low (x .start)) (omega (arith, broken .given .long, broken .given .inside)));
+        given = λ x i.
+            let p = place x i in
+            subst (λ (y : Bound). List·Memᴰ y (listed list (m + 1))) (p .is)
+            (listed-at list (m + 1) (p .place) (p .low) (omega (arith, broken .given .long, broken .given .inside)));
         once = way-back .simple;
         negative = omega (ticks, way-back .sums, broken .below, sum (β .weight) (total (way-back .steps)));
       }
@@ -134,9 +135,9 @@ module _ (list : List Entry) (d : List ℤ) (n m : ℕ) (nx : List ℕ) (broken 
       end-visited : member r (β .end) ≡ true
       end-visited = events .all (β .end) (List·Memᴰ·head refl)
 
-      pub writing : (from : ℕ) (out : List ℕ) → from ≡ first → r < 2 ^ WIDTH → WIDTH ≤ length out → Writing list closed from (ones r) out
+      pub writing : (from : ℕ) (out : List ℕ) → from ≡ first → r < 2 ^ WIDTH → WIDTH ≤ length out → Writing closed from (ones r) out
       writing from out e l h = record {
-        noted = closed-noted;
+        notes = closed-notes;
         from = omega (arith, e, lowest-least WIDTH r (β .end) end-visited (visiting .from), visiting .from);
         room = omega (arith, ones-le WIDTH r l);
       }
@@ -152,7 +153,7 @@ module _ (list : List Entry) (d : List ℤ) (n m : ℕ) (nx : List ℕ) (broken 
       counted = omega (arith, events .count, ap length (parted .whole), length-append (parted .front) (parted .back), length-append (parted .back) (parted .front))
 
       -- what was written by the notes from the least event on is the chain
-      pub found : (from : ℕ) (before after : List ℕ) → from ≡ first → after ≡ over (map (λ b. b .code) (way list closed from (ones r))) before → Found (listed list (m + 1)) before (ones r) after
+      pub found : (from : ℕ) (before after : List ℕ) → from ≡ first → after ≡ over (codesFrom closed from (ones r)) before → Found (listed list (m + 1)) before (ones r) after
       found from before after e w =
           let turned = loop-turn loop parted in
           record {
@@ -166,5 +167,5 @@ module _ (list : List Entry) (d : List ℤ) (n m : ℕ) (nx : List ℕ) (broken 
                 let j = turned-back parted i in
                 lowest-least WIDTH r (x .start) (visited x j) (start-low (bound-fit x j));
             counted = counted;
-            written = w ∙ ap (λ (l : List Bound). over (map (λ b. b .code) l) before) (ap₂ (way list closed) e counted ∙ way-is list closed (turned .closed) (λ x i. noted x (turned-back parted i)));
+            written = w ∙ ap (λ (l : List ℕ). over l before) (ap₂ (codesFrom closed) e counted ∙ codes-are closed (turned .closed) (λ x i. noted x (turned-back parted i)));
           }

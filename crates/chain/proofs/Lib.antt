@@ -1,4 +1,5 @@
 -- The laws of marking, of following the notes, of the chain that they make, and of walks over a lent list.
+pub mod Notes
 pub mod Marks
 pub mod Trail
 pub mod Visit

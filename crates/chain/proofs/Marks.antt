@@ -6,15 +6,15 @@ use mathlib.Core.List.{List}
 use Prim.Native.Nat.{ℕ, _+_, _≤_, _<_}
 use native.Mathlib.Omega.{arith}
 use native.Mathlib.Decide.{ℕ-discrete}
-use lib.ListN.{length, getD, set, length-set}
-use lib.Seq.{getD-set-same, getD-set-other}
+use lib.ListN.{length}
 use lib.IntN.{ℤ}
 use lib.Count.{ones}
 use Rattle.eventset.specs.Sets.{WIDTH, member, putIn}
 use Rattle.eventset.proofs.Laws.{put-same, put-keeps, count-fresh, one-member}
 use Rattle.chain.specs.declared.Bound.{Bound as Entry}
 use Rattle.chain.specs.Clash.{boundAt, TightAt, Lead, here, by}
-use Rattle.chain.specs.Marks.{Look, kept, marked, Grow, same, more, Tree, root, put, Marked, Scanned}
+use Rattle.chain.specs.Marks.{Notes, Look, LookAt, kept, marked, Grow, same, more, Tree, root, put, Marked, Scanned}
+use Rattle.chain.proofs.Notes.{length-note, notes-note}
 
 -- a test is not both
 pub not-both : {t : Bool} → t ≡ true → t ≡ false → ⊥
@@ -33,15 +33,6 @@ grow-count (more t f g z p) = omega (arith, grow-count g, ap ones p, count-fresh
 pub grow-new : {s r : ℕ} (e : ℕ) → Grow s r → member s e ≡ false → member r e ≡ true → ones s < ones r
 grow-new e (same p) h k = absurd (not-both k (ap (λ (x : ℕ). member x e) p ∙ h))
 grow-new e (more t f g z p) h k = omega (arith, grow-count g, ap ones p, count-fresh t f z)
-
--- ---- notes stay below
-
-pub low-set : (m : ℕ) (nx : List ℕ) (u k : ℕ) → u < length nx → k ≤ m → ((e : ℕ) → getD nx e 0 ≤ m) → (e : ℕ) → getD (set nx u k) e 0 ≤ m
-low-set m nx u k l b h e = at (ℕ-discrete e u)
-  where
-    at : Dec (e ≡ u) → getD (set nx u k) e 0 ≤ m
-    at (yes p) = omega (arith, ap (λ (x : ℕ). getD (set nx u k) x 0) p, getD-set-same nx u k 0 l)
-    at (no n) = omega (arith, getD-set-other nx u e k 0 n, h e)
 
 module _ (list : List Entry) (d : List ℤ) (m a : ℕ) where
   pub tree-root : {s : ℕ} {nx : List ℕ} → Tree list d m a s nx → member s a ≡ true
@@ -69,9 +60,10 @@ module _ (list : List Entry) (d : List ℤ) (m a : ℕ) where
   under-start s nx t =
       record { within = omega arith; long = refl; marked = t; grew = same refl; part = λ k l. absurd (omega arith) }
 
-  pub under-step : (s : ℕ) (nx₀ : List ℕ) (i r : ℕ) (nx : List ℕ) (r′ : ℕ) (nx′ : List ℕ) → Under s nx₀ i r nx → i < m → boundAt list i .start < WIDTH
-      → Look d a i (boundAt list i .start) (boundAt list i .end) (boundAt list i .weight) r nx r′ nx′ → Under s nx₀ (i + 1) r′ nx′
-  under-step s nx₀ i r nx r′ nx′ c l f (kept p q h) = record {
+  pub under-step : (s : ℕ) (nx₀ : List ℕ) (i r : ℕ) (nx : List ℕ) (r′ : ℕ) (nx′ : List ℕ) → Under s nx₀ i r nx → i < m
+      → boundAt list i .start < WIDTH → boundAt list i .end < WIDTH
+      → LookAt list i d a r nx r′ nx′ → Under s nx₀ (i + 1) r′ nx′
+  under-step s nx₀ i r nx r′ nx′ c l f g (kept p q h) = record {
     within = omega arith;
     long = ap length q ∙ c .long;
     marked = subst₂ (λ (x : ℕ) (y : List ℕ). Marked list d m a x y) (sym p) (sym q) (c .marked);
@@ -84,17 +76,16 @@ module _ (list : List Entry) (d : List ℤ) (m a : ℕ) where
           ap (λ (x : ℕ). member r (boundAt list x .start)) e
           ∙ h (subst (λ (x : ℕ). TightAt list d a x) e t) (ap (λ (x : ℕ). member r (boundAt list x .end)) (sym e) ∙ grow-keeps (boundAt list k .end) (c .grew) o)
       at k b t o (no n) = c .part k (omega arith) t o
-  under-step s nx₀ i r nx r′ nx′ c l f (marked z v t p q) =
+  under-step s nx₀ i r nx r′ nx′ c l f g (marked z v t p q) =
       let u : ℕ = boundAt list i .start in
-      let room = c .marked .room in
-      let i-low : u < length nx = omega arith in
+      let o : ℕ = boundAt list i .end in
+      let b : ℕ = boundAt list i .code in
       record {
         within = omega arith;
-        long = ap length q ∙ length-set nx u i ∙ c .long;
+        long = ap length q ∙ length-note nx u o b ∙ c .long;
         marked = record {
-          tree = put r nx i (c .marked .tree) l i-low z v t p q;
-          room = omega (arith, ap length q, length-set nx u i);
-          low = λ e. subst (λ (y : List ℕ). getD y e 0 ≤ m) (sym q) (low-set m nx u i i-low (omega arith) (c .marked .low) e);
+          tree = put r nx i (c .marked .tree) l (omega (arith, c .marked .notes .room)) z v t p q;
+          notes = subst Notes (sym q) (notes-note nx u o b f g (c .marked .notes));
         };
         grew = more r u (c .grew) z p;
         part = λ k b g o. ap (λ (x : ℕ). member x (boundAt list k .start)) p ∙ at k b g o (ℕ-discrete k i);

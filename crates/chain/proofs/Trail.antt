@@ -1,13 +1,12 @@
 -- Each marked event has its way to a by the notes: tight bounds all along, so that their weights sum to the distance, and no event
 -- twice, since each was marked after those that follow it. By induction on how the marks came about.
-use mathlib.Core.Path.{_≡_, sym, ap, _∙_, subst, subst₂}
+use mathlib.Core.Path.{_≡_, refl, sym, ap, _∙_, subst, subst₂}
 use mathlib.Core.Bool.{true, false}
 use mathlib.Core.List.{List, [], _∷_, List·Memᴰ, List·Memᴰ·head, List·Memᴰ·tail, List·Memᴰ·not-nil}
-use Prim.Native.Nat.{ℕ, _<_}
+use Prim.Native.Nat.{ℕ, _+_, _*_, _<_}
 use native.Mathlib.Decide.{ℕ-discrete}
 use lib.Dec.{T}
-use lib.ListN.{length, getD, set}
-use lib.Seq.{getD-set-same, getD-set-other}
+use lib.ListN.{length}
 use lib.IntN.{ℤ, pos, _+ℤ_}
 use Rattle.eventset.specs.Sets.{member, putIn}
 use Rattle.eventset.proofs.Laws.{put-same, put-other, put-keeps, one-other}
@@ -16,14 +15,16 @@ use Rattle.meaning.proofs.Distinct.{distinct-cons}
 use Rattle.distances.specs.Matrix.{at}
 use Rattle.chain.specs.declared.Bound.{Bound as Entry}
 use Rattle.chain.specs.Clash.{boundAt, TightAt}
-use Rattle.chain.specs.Marks.{Tree, root, put}
+use Rattle.chain.specs.Marks.{note, Noted, Tree, root, put}
 use Rattle.chain.proofs.Marks.{not-both, tree-root}
+use Rattle.chain.proofs.Notes.{noted-other, noted-same}
+use Rattle.chain.proofs.Lead.{Place}
 
 module _ (list : List Entry) (d : List ℤ) (m a : ℕ) where
   -- a bound on the way: one of the first m, noted at its start, which is marked and not a
   pub record Passed (s : ℕ) (nx : List ℕ) (x : Bound) : Type 0 where
-    pub low : getD nx (x .start) 0 < m
-    pub noted : boundAt list (getD nx (x .start) 0) ≡ x
+    pub place : Place list m x
+    pub noted : Noted nx x
     pub marked : member s (x .start) ≡ true
     pub apart : x .start ≡ a → ⊥
 
@@ -36,24 +37,22 @@ module _ (list : List Entry) (d : List ℤ) (m a : ℕ) where
     pub each : (x : Bound) → List·Memᴰ x steps → Passed s nx x
 
   -- more marks change none of it
-  keep-passed : (s : ℕ) (nx : List ℕ) (u k : ℕ) (x : Bound) → member s u ≡ false → Passed s nx x → Passed (putIn s u) (set nx u k) x
-  keep-passed s nx u k x z p =
-      let q : getD (set nx u k) (x .start) 0 ≡ getD nx (x .start) 0 = getD-set-other nx u (x .start) k 0 (λ e. not-both (p .marked) (ap (member s) e ∙ z)) in
-      record {
-        low = subst (λ (y : ℕ). y < m) (sym q) (p .low);
-        noted = ap (boundAt list) q ∙ p .noted;
-        marked = put-keeps s u (x .start) (p .marked);
-        apart = p .apart;
-      }
+  keep-passed : (s : ℕ) (nx : List ℕ) (u v c : ℕ) (x : Bound) → member s u ≡ false → Passed s nx x → Passed (putIn s u) (note nx u v c) x
+  keep-passed s nx u v c x z p = record {
+    place = p .place;
+    noted = noted-other nx u v c x (λ e. not-both (p .marked) (ap (member s) e ∙ z)) (p .noted);
+    marked = put-keeps s u (x .start) (p .marked);
+    apart = p .apart;
+  }
 
-  keep : (s : ℕ) (nx : List ℕ) (u k e : ℕ) → member s u ≡ false → Trail s nx e → Trail (putIn s u) (set nx u k) e
-  keep s nx u k e z t = record {
+  keep : (s : ℕ) (nx : List ℕ) (u v c e : ℕ) → member s u ≡ false → Trail s nx e → Trail (putIn s u) (note nx u v c) e
+  keep s nx u v c e z t = record {
     steps = t .steps;
     leads = t .leads;
     sums = t .sums;
     simple = t .simple;
-    events = λ v i. put-keeps s u v (t .events v i);
-    each = λ x i. keep-passed s nx u k x z (t .each x i);
+    events = λ f i. put-keeps s u f (t .events f i);
+    each = λ x i. keep-passed s nx u v c x z (t .each x i);
   }
 
   -- a itself
@@ -71,9 +70,13 @@ module _ (list : List Entry) (d : List ℤ) (m a : ℕ) where
       only v (List·Memᴰ·head e) = ap (member s) e ∙ h
       only v (List·Memᴰ·tail i) = absurd (List·Memᴰ·not-nil i)
 
+  -- the notes with that of bound k
+  abbrev with-note : List ℕ → ℕ → List ℕ
+  with-note nx k = note nx (boundAt list k .start) (boundAt list k .end) (boundAt list k .code)
+
   -- the event that bound k marks
-  extend : (s : ℕ) (nx : List ℕ) (k : ℕ) → k < m → boundAt list k .start < length nx → member s (boundAt list k .start) ≡ false → member s a ≡ true → TightAt list d a k
-      → Trail s nx (boundAt list k .end) → Trail (putIn s (boundAt list k .start)) (set nx (boundAt list k .start) k) (boundAt list k .start)
+  extend : (s : ℕ) (nx : List ℕ) (k : ℕ) → k < m → 2 * boundAt list k .start + 1 < length nx → member s (boundAt list k .start) ≡ false → member s a ≡ true → TightAt list d a k
+      → Trail s nx (boundAt list k .end) → Trail (putIn s (boundAt list k .start)) (with-note nx k) (boundAt list k .start)
   extend s nx k l i z h g t = record {
     steps = β ∷ t .steps;
     leads = step (t .leads);
@@ -89,23 +92,20 @@ module _ (list : List Entry) (d : List ℤ) (m a : ℕ) where
       u : ℕ
       u = boundAt list k .start
 
-      noted : getD (set nx u k) u 0 ≡ k
-      noted = getD-set-same nx u k 0 i
-
       marked : (v : ℕ) → List·Memᴰ v (u ∷ β .end ∷ ends (t .steps)) → member (putIn s u) v ≡ true
       marked v (List·Memᴰ·head e) = ap (member (putIn s u)) e ∙ put-same s u
       marked v (List·Memᴰ·tail j) = put-keeps s u v (t .events v j)
 
-      passed : (x : Bound) → List·Memᴰ x (β ∷ t .steps) → Passed (putIn s u) (set nx u k) x
+      passed : (x : Bound) → List·Memᴰ x (β ∷ t .steps) → Passed (putIn s u) (with-note nx k) x
       passed x (List·Memᴰ·head e) =
-          subst (λ (y : Bound). Passed (putIn s u) (set nx u k) y) (sym e)
+          subst (λ (y : Bound). Passed (putIn s u) (with-note nx k) y) (sym e)
           (record {
-            low = subst (λ (y : ℕ). y < m) (sym noted) l;
-            noted = ap (boundAt list) noted;
+            place = record { place = k; low = l; is = refl };
+            noted = noted-same nx β i;
             marked = put-same s u;
             apart = λ q. not-both h (ap (member s) (sym q) ∙ z);
           })
-      passed x (List·Memᴰ·tail j) = keep-passed s nx u k x z (t .each x j)
+      passed x (List·Memᴰ·tail j) = keep-passed s nx u (β .end) (β .code) x z (t .each x j)
 
   pub trail : {s : ℕ} {nx : List ℕ} (e : ℕ) → at d a a ≡ pos 0 → Tree list d m a s nx → member s e ≡ true → Trail s nx e
   trail {s} {nx} e z (root p) h = alone (ℕ-discrete e a)
@@ -120,6 +120,6 @@ module _ (list : List Entry) (d : List ℤ) (m a : ℕ) where
       u : ℕ
       u = boundAt list k .start
 
-      found : Dec (e ≡ u) → ((f : ℕ) → member s′ f ≡ true → Trail s′ nx′ f) → member (putIn s′ u) e ≡ true → Trail (putIn s′ u) (set nx′ u k) e
-      found (yes r) rest b = subst (λ (x : ℕ). Trail (putIn s′ u) (set nx′ u k) x) (sym r) (extend s′ nx′ k l i y (tree-root list d m a t) g (rest (boundAt list k .end) o))
-      found (no n) rest b = keep s′ nx′ u k e y (rest e (sym (put-other s′ u e n) ∙ b))
+      found : Dec (e ≡ u) → ((f : ℕ) → member s′ f ≡ true → Trail s′ nx′ f) → member (putIn s′ u) e ≡ true → Trail (putIn s′ u) (with-note nx′ k) e
+      found (yes r) rest b = subst (λ (x : ℕ). Trail (putIn s′ u) (with-note nx′ k) x) (sym r) (extend s′ nx′ k l i y (tree-root list d m a t) g (rest (boundAt list k .end) o))
+      found (no n) rest b = keep s′ nx′ u (boundAt list k .end) (boundAt list k .code) e y (rest e (sym (put-other s′ u e n) ∙ b))

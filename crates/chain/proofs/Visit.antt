@@ -3,22 +3,20 @@
 use mathlib.Core.Path.{_≡_, refl, sym, ap, _∙_, subst}
 use mathlib.Core.Bool.{Bool, true, false}
 use mathlib.Core.List.{List, [], _∷_, _++_, List·Memᴰ, List·Memᴰ·head, List·Memᴰ·tail}
-use Prim.Native.Nat.{ℕ, suc, _<_}
+use Prim.Native.Nat.{ℕ, suc}
 use native.Mathlib.Omega.{arith}
 use native.Mathlib.Decide.{ℕ-discrete}
 use lib.Dec.{T}
-use lib.ListN.{length, length-map, getD}
+use lib.ListN.{length, length-map}
 use lib.Seq.{append-snoc}
 use lib.Count.{ones}
-use Rattle.eventset.specs.Sets.{WIDTH, member, putIn}
+use Rattle.eventset.specs.Sets.{member, putIn}
 use Rattle.eventset.proofs.Laws.{put-same, put-other, put-keeps, count-fresh, none-member, none-count}
 use Rattle.eventset.proofs.Listed.{setOf, set-snoc}
 use Rattle.meaning.specs.Bounds.{Bound, Leads, stop, step, distinct, ends}
 use Rattle.meaning.proofs.Distinct.{distinct-head, distinct-tail, distinct-apart}
 use Rattle.meaning.proofs.Chains.{last-entered}
-use Rattle.chain.specs.declared.Bound.{Bound as Entry}
-use Rattle.chain.specs.Clash.{boundAt}
-use Rattle.chain.specs.Marks.{Noted, Path, Events}
+use Rattle.chain.specs.Marks.{endAt, Path, Events}
 use Rattle.chain.proofs.Marks.{not-both}
 
 -- ---- the set of a list's events
@@ -54,40 +52,37 @@ leads-none stop = refl
 leads-first : {e a : ℕ} {x : Bound} {xs : List Bound} → Leads e (x ∷ xs) a → (x .start ≡ e) × Leads (x .end) xs a
 leads-first (step l) = (refl, l)
 
-pub noted-end : {list : List Entry} {nx : List ℕ} → Noted list nx → (e : ℕ) → boundAt list (getD nx e 0) .end < WIDTH
-noted-end {nx = nx} h e = omega (arith, h .events, h .given .fit (getD nx e 0) (h .low e) .end)
-
 -- ---- under way
 
-module _ (list : List Entry) (nx : List ℕ) (a b : ℕ) (steps : List Bound) where
+module _ (nx : List ℕ) (a b : ℕ) (steps : List Bound) where
   pub record Passing (s e : ℕ) : Type 0 where
     pub done : List ℕ
     pub rest : List Bound
-    pub path : Path list nx a e rest
+    pub path : Path nx a e rest
     pub whole : done ++ (e ∷ ends rest) ≡ b ∷ ends steps
     pub simple : T (distinct (b ∷ ends steps))
     pub set : s ≡ setOf done
 
   pub record Next (s e : ℕ) : Type 0 where
     pub fresh : member s e ≡ false
-    pub then : Passing (putIn s e) (boundAt list (getD nx e 0) .end)
+    pub then : Passing (putIn s e) (endAt nx e)
 
-  pub pass-start : Path list nx a b steps → Passing 0 b
+  pub pass-start : Path nx a b steps → Passing 0 b
   pass-start p = record { done = []; rest = steps; path = p; whole = refl; simple = p .simple; set = refl }
 
   pub pass : (s e : ℕ) → (e ≡ a → ⊥) → Passing s e → Next s e
   pass s e n p = at (p .rest) (p .path) (p .whole)
     where
-      at : (rest : List Bound) → Path list nx a e rest → p .done ++ (e ∷ ends rest) ≡ b ∷ ends steps → Next s e
+      at : (rest : List Bound) → Path nx a e rest → p .done ++ (e ∷ ends rest) ≡ b ∷ ends steps → Next s e
       at [] q w = absurd (n (leads-none (q .leads)))
       at (x ∷ xs) q w =
           let f = leads-first (q .leads) in
-          let is : boundAt list (getD nx e 0) ≡ x = ap (λ (y : ℕ). boundAt list (getD nx y 0)) (sym (f .0)) ∙ q .noted x (List·Memᴰ·head refl) in
+          let is : endAt nx e ≡ x .end = ap (endAt nx) (sym (f .0)) ∙ q .noted x (List·Memᴰ·head refl) .to in
           let new : List·Memᴰ e (p .done) → ⊥ = λ i. distinct-apart (p .done) (e ∷ ends (x ∷ xs)) (subst (λ (l : List ℕ). T (distinct l)) (sym w) (p .simple)) e i (List·Memᴰ·head refl) in
           record {
             fresh = ap (λ (y : ℕ). member y e) (p .set) ∙ set-lacks (p .done) e new;
             then =
-                subst (λ (y : Bound). Passing (putIn s e) (y .end)) (sym is)
+                subst (λ (y : ℕ). Passing (putIn s e) y) (sym is)
                 (record {
                   done = p .done ++ (e ∷ []);
                   rest = xs;
@@ -101,7 +96,7 @@ module _ (list : List Entry) (nx : List ℕ) (a b : ℕ) (steps : List Bound) wh
   pub passed : (s e : ℕ) → e ≡ a → Passing s e → Events b steps (putIn s e)
   passed s e h p = at (p .rest) (p .path) (p .whole)
     where
-      at : (rest : List Bound) → Path list nx a e rest → p .done ++ (e ∷ ends rest) ≡ b ∷ ends steps → Events b steps (putIn s e)
+      at : (rest : List Bound) → Path nx a e rest → p .done ++ (e ∷ ends rest) ≡ b ∷ ends steps → Events b steps (putIn s e)
       at [] q w =
           let is : putIn s e ≡ setOf (b ∷ ends steps) = ap (λ (y : ℕ). putIn y e) (p .set) ∙ sym (set-snoc (p .done) e) ∙ ap setOf w in
           subst (λ (y : ℕ). Events b steps y) (sym is)

@@ -1,9 +1,9 @@
--- What the functions within ask of one another: the marked events as a set s, and at each of them the place of the bound by which it
--- was marked, its note, in a list nx.
+-- What the functions within ask of one another: the marked events as a set s, and at each of them the end and the code of the bound by
+-- which it was marked, its note, in a list nx.
 use mathlib.Core.Path.{_≡_}
 use mathlib.Core.Bool.{Bool, true, false}
-use mathlib.Core.List.{List, [], _∷_, map, List·Memᴰ}
-use Prim.Native.Nat.{ℕ, zero, suc, _≤_, _<_}
+use mathlib.Core.List.{List, [], _∷_, List·Memᴰ}
+use Prim.Native.Nat.{ℕ, zero, suc, _+_, _*_, _≤_, _<_}
 use lib.Dec.{T}
 use lib.ListN.{length, getD, set}
 use lib.IntN.{ℤ}
@@ -13,6 +13,33 @@ use Rattle.meaning.specs.Bounds.{Bound, Leads, distinct, ends}
 use Rattle.meaning.specs.Outcome.{over}
 use Rattle.chain.specs.declared.Bound.{Bound as Entry}
 use Rattle.chain.specs.Clash.{boundAt, Fit, Table, Given, Tight, TightAt, Lead}
+
+-- ---- the notes
+
+-- in code the constant of this name
+abbrev pub NOTES : ℕ
+NOTES = 128
+
+-- the note at event e
+abbrev pub endAt : List ℕ → ℕ → ℕ
+endAt nx e = getD nx (2 * e) 0
+
+abbrev pub codeAt : List ℕ → ℕ → ℕ
+codeAt nx e = getD nx (2 * e + 1) 0
+
+-- the notes with that of a bound from u to v with code c
+abbrev pub note : List ℕ → ℕ → ℕ → ℕ → List ℕ
+note nx u v c = set (set nx (2 * u) v) (2 * u + 1) c
+
+-- notes that lead from event to event
+pub record Notes (nx : List ℕ) : Type 0 where
+  pub room : NOTES ≤ length nx
+  pub low : (e : ℕ) → endAt nx e < WIDTH
+
+-- the bound x is noted at its start
+pub record Noted (nx : List ℕ) (x : Bound) : Type 0 where
+  pub to : endAt nx (x .start) ≡ x .end
+  pub code : codeAt nx (x .start) ≡ x .code
 
 -- ---- one bound
 
@@ -26,10 +53,17 @@ pub record Decided (P : Type 0) (r : Bool) : Type 0 where
   pub taken : r ≡ true → P
   pub left : r ≡ false → P → ⊥
 
--- what a look at bound k, from u to v of weight w, does
-pub data Look (d : List ℤ) (a k u v : ℕ) (w : ℤ) (s : ℕ) (nx : List ℕ) (r : ℕ) (nx′ : List ℕ) : Type 0 where
-  kept : r ≡ s → nx′ ≡ nx → (Tight d a u v w → member s v ≡ true → member s u ≡ true) → Look d a k u v w s nx r nx′
-  marked : member s u ≡ false → member s v ≡ true → Tight d a u v w → r ≡ putIn s u → nx′ ≡ set nx u k → Look d a k u v w s nx r nx′
+-- what a look at a bound from u to v of weight w with code c does
+pub data Look (d : List ℤ) (a u v : ℕ) (w : ℤ) (c s : ℕ) (nx : List ℕ) (r : ℕ) (nx′ : List ℕ) : Type 0 where
+  kept : r ≡ s → nx′ ≡ nx → (Tight d a u v w → member s v ≡ true → member s u ≡ true) → Look d a u v w c s nx r nx′
+  marked : member s u ≡ false → member s v ≡ true → Tight d a u v w → r ≡ putIn s u → nx′ ≡ note nx u v c → Look d a u v w c s nx r nx′
+
+-- the same of bound k of a list
+abbrev pub LookingAt : List Entry → ℕ → List ℤ → ℕ → Type 0
+LookingAt list k d a = Looking d a (boundAt list k .start) (boundAt list k .end) (boundAt list k .weight)
+
+abbrev pub LookAt : List Entry → ℕ → List ℤ → ℕ → ℕ → List ℕ → ℕ → List ℕ → Type 0
+LookAt list k d a s nx r nx′ = Look d a (boundAt list k .start) (boundAt list k .end) (boundAt list k .weight) (boundAt list k .code) s nx r nx′
 
 -- ---- all bounds
 
@@ -42,14 +76,13 @@ module _ (list : List Entry) (d : List ℤ) (m a : ℕ) where
   -- events marked one by one, from a on
   pub data Tree : ℕ → List ℕ → Type 0 where
     root : {s : ℕ} {nx : List ℕ} → s ≡ putIn 0 a → Tree s nx
-    put : {r : ℕ} {nx′ : List ℕ} (s : ℕ) (nx : List ℕ) (k : ℕ) → Tree s nx → k < m → boundAt list k .start < length nx
+    put : {r : ℕ} {nx′ : List ℕ} (s : ℕ) (nx : List ℕ) (k : ℕ) → Tree s nx → k < m → 2 * boundAt list k .start + 1 < length nx
         → member s (boundAt list k .start) ≡ false → member s (boundAt list k .end) ≡ true → TightAt list d a k
-        → r ≡ putIn s (boundAt list k .start) → nx′ ≡ set nx (boundAt list k .start) k → Tree r nx′
+        → r ≡ putIn s (boundAt list k .start) → nx′ ≡ note nx (boundAt list k .start) (boundAt list k .end) (boundAt list k .code) → Tree r nx′
 
   pub record Marked (s : ℕ) (nx : List ℕ) : Type 0 where
     pub tree : Tree s nx
-    pub room : WIDTH ≤ length nx
-    pub low : (e : ℕ) → getD nx e 0 ≤ m
+    pub notes : Notes nx
 
   -- what may be scanned, and what is true after it
   pub record Scanning (s : ℕ) (nx : List ℕ) : Type 0 where
@@ -72,8 +105,7 @@ module _ (list : List Entry) (d : List ℤ) (m a : ℕ) where
     pub to : a < n
     pub from : b < n
     pub lead : Lead list d m a b
-    pub room : WIDTH ≤ length nx
-    pub low : (e : ℕ) → getD nx e 0 ≤ m
+    pub notes : Notes nx
 
   pub record Reached (b r : ℕ) (nx : List ℕ) : Type 0 where
     pub marked : Marked r nx
@@ -81,27 +113,18 @@ module _ (list : List Entry) (d : List ℤ) (m a : ℕ) where
 
 -- ---- following the notes
 
--- the list, and notes that are places of the first m bounds
-pub record Noted (list : List Entry) (nx : List ℕ) : Type 0 where
-  pub n : ℕ
-  pub m : ℕ
-  pub given : Given list n m
-  pub events : n ≤ WIDTH
-  pub room : WIDTH ≤ length nx
-  pub low : (e : ℕ) → getD nx e 0 < m
-
 -- the notes lead from b to a, by no event twice
-pub record Path (list : List Entry) (nx : List ℕ) (a b : ℕ) (steps : List Bound) : Type 0 where
+pub record Path (nx : List ℕ) (a b : ℕ) (steps : List Bound) : Type 0 where
   pub leads : Leads b steps a
-  pub noted : (x : Bound) → List·Memᴰ x steps → boundAt list (getD nx (x .start) 0) ≡ x
+  pub noted : (x : Bound) → List·Memᴰ x steps → Noted nx x
   pub simple : T (distinct (b ∷ ends steps))
 
-pub record Visiting (list : List Entry) (nx : List ℕ) (a b : ℕ) : Type 0 where
-  pub noted : Noted list nx
+pub record Visiting (nx : List ℕ) (a b : ℕ) : Type 0 where
+  pub notes : Notes nx
   pub from : b < WIDTH
   pub to : a < WIDTH
   pub steps : List Bound
-  pub path : Path list nx a b steps
+  pub path : Path nx a b steps
 
 -- r is the set of the events on the way, both ends with them
 pub record Events (b : ℕ) (steps : List Bound) (r : ℕ) : Type 0 where
@@ -109,20 +132,20 @@ pub record Events (b : ℕ) (steps : List Bound) (r : ℕ) : Type 0 where
   pub only : (e : ℕ) → member r e ≡ true → List·Memᴰ e (b ∷ ends steps)
   pub count : ones r ≡ suc (length steps)
 
-pub record Visited (list : List Entry) (nx : List ℕ) (a b r : ℕ) : Type 0 where
-  pub events : (steps : List Bound) → Path list nx a b steps → Events b steps r
+pub record Visited (nx : List ℕ) (a b r : ℕ) : Type 0 where
+  pub events : (steps : List Bound) → Path nx a b steps → Events b steps r
 
--- the first c bounds from e on by the notes
-abbrev pub way : List Entry → List ℕ → ℕ → ℕ → List Bound
-way list nx e zero = []
-way list nx e (suc c) = let b = boundAt list (getD nx e 0) in b ∷ way list nx (b .end) c
+-- the first c codes from e on by the notes
+abbrev pub codesFrom : List ℕ → ℕ → ℕ → List ℕ
+codesFrom nx e zero = []
+codesFrom nx e (suc c) = codeAt nx e ∷ codesFrom nx (endAt nx e) c
 
-pub record Writing (list : List Entry) (nx : List ℕ) (e c : ℕ) (out : List ℕ) : Type 0 where
-  pub noted : Noted list nx
+pub record Writing (nx : List ℕ) (e c : ℕ) (out : List ℕ) : Type 0 where
+  pub notes : Notes nx
   pub from : e < WIDTH
   pub room : c ≤ length out
 
 -- as many codes as there are visited events
-pub record Written (list : List Entry) (nx : List ℕ) (e c : ℕ) (before : List ℕ) (r : ℕ) (after : List ℕ) : Type 0 where
+pub record Written (nx : List ℕ) (e c : ℕ) (before : List ℕ) (r : ℕ) (after : List ℕ) : Type 0 where
   pub steps : r ≡ c
-  pub codes : after ≡ over (map (λ b. b .code) (way list nx e c)) before
+  pub codes : after ≡ over (codesFrom nx e c) before

@@ -1,15 +1,16 @@
 // When a bound fails: the closed chain that it makes with the bounds before it.
 ghost use mathlib.Core.Path.{_≡_};
-ghost use Prim.Native.Nat.{ℕ, _+_, _≤_};
+ghost use Prim.Native.Nat.{ℕ, _+_, _*_, _≤_, _<_};
 ghost use lib.ListN.{length};
 ghost use lib.Count.{ones};
 ghost use Rattle.eventset.specs.Sets.{WIDTH, bitsOf};
 ghost use Rattle.chain.specs.Clash.{Tight, listed, Broken, Found};
-ghost use Rattle.chain.specs.Marks.{Looking, Decided, Look, Scanning, Scanned, Marking, Reached, Visiting, Visited, Writing, Written};
+ghost use Rattle.chain.specs.Marks.{NOTES, note as noteIn, Looking, LookingAt, Decided, Look, LookAt, Scanning, Scanned, Marking, Reached, Visiting, Visited, Writing, Written};
 
 pub const MOST_BOUNDS: usize = 640;
 
-const WIDTH: usize = 64;
+// The end and the code of a bound for each of 64 events.
+const NOTES: usize = 128;
 
 // The event `end` comes at most `weight` after the event `start`.
 pub struct Bound {
@@ -17,13 +18,6 @@ pub struct Bound {
     pub end: u8,
     pub code: u16,
     pub weight: i32,
-}
-
-// An event as an index.
-fn event(x: u8) -> usize
-    ensures { λ r. ⌜ r ≡ x ⌝ }
-{
-    x as usize
 }
 
 // Is the bound from u to v of weight w tight towards a? The distance from v to a is the sum of the weights along a way; this adds one more.
@@ -35,51 +29,94 @@ fn tight(d: &[i32], u: usize, v: usize, w: i32, a: usize) -> bool
     ticks::equal(distances::distance(d, u, a), sum)
 }
 
-// Looks at bound k, from u to v of weight w: where v is marked, u is not and the bound is tight, u is marked and k noted at it.
+// Notes at event u that a bound goes on from it to `end`, with its code.
+fn note(notes: &mut [u16], u: usize, end: u8, code: u16)
+    requires { ⌜ 2 * u + 1 < length (now notes) ⌝ }
+    ensures { λ _. ⌜ now (notes .exit) ≡ noteIn (now (notes .entry)) u end code ⌝ }
+{
+    notes[2 * u] = end as u16;
+    notes[2 * u + 1] = code;
+}
+
+// Looks at a bound: where its end is marked, its start is not and it is tight, its start is marked and the bound noted there.
 fn look(
     d: &[i32],
-    k: usize,
-    u: usize,
-    v: usize,
-    w: i32,
+    start: u8,
+    end: u8,
+    weight: i32,
+    code: u16,
     a: usize,
     seen: eventset::EventSet,
-    next: &mut [usize],
+    notes: &mut [u16],
 ) -> eventset::EventSet
-    requires { ⌜ Looking (now d) a u v w × (WIDTH ≤ length (now next)) ⌝ }
-    ensures { λ r. ⌜ Look (now (d .entry)) a k u v w (bitsOf seen) (now (next .entry)) (bitsOf r) (now (next .exit)) ⌝ }
+    requires { ⌜ Looking (now d) a start end weight × (NOTES ≤ length (now notes)) ⌝ }
+    ensures { λ r. ⌜ Look (now (d .entry)) a start end weight code (bitsOf seen) (now (notes .entry)) (bitsOf r) (now (notes .exit)) ⌝ }
 {
+    let u = start as usize;
+    let v = end as usize;
     if eventset::has(seen, u) {
         return seen;
     }
     if !eventset::has(seen, v) {
         return seen;
     }
-    if !tight(d, u, v, w, a) {
+    if !tight(d, u, v, weight, a) {
         return seen;
     }
-    next[u] = k;
+    note(notes, u, end, code);
     eventset::put(seen, u)
+}
+
+// Reads bound k of the list and looks at it.
+fn look_at(
+    list: &[Bound],
+    k: usize,
+    d: &[i32],
+    a: usize,
+    seen: eventset::EventSet,
+    notes: &mut [u16],
+) -> eventset::EventSet
+    requires { ⌜ (k < length (now list)) × (LookingAt (now list) k (now d) a × (NOTES ≤ length (now notes))) ⌝ }
+    ensures { λ r. ⌜ LookAt (now (list .entry)) k (now (d .entry)) a (bitsOf seen) (now (notes .entry)) (bitsOf r) (now (notes .exit)) ⌝ }
+{
+    let b = list[k];
+    look(d, b.start, b.end, b.weight, b.code, a, seen, notes)
 }
 
 // One scan of the first m bounds.
 fn scan(
+    list: &[Bound],
+    m: usize,
+    d: &[i32],
+    a: usize,
+    from: eventset::EventSet,
+    notes: &mut [u16],
+) -> eventset::EventSet
+    requires { ⌜ Scanning (now list) (now d) m a (bitsOf from) (now notes) ⌝ }
+    ensures { λ r. ⌜ Scanned (now (list .entry)) (now (d .entry)) m a (bitsOf from) (bitsOf r) (now (notes .exit)) ⌝ }
+{
+    let mut seen = from;
+    let mut k = 0;
+    while k < m {
+        seen = look_at(list, k, d, a, seen, notes);
+        k += 1;
+    }
+    seen
+}
+
+// A scan of the list, lent: who calls this holds it by value.
+fn scan_listed(
     list: [Bound; MOST_BOUNDS],
     m: usize,
     d: &[i32],
     a: usize,
     from: eventset::EventSet,
-    next: &mut [usize],
+    notes: &mut [u16],
 ) -> eventset::EventSet
-    requires { ⌜ Scanning list (now d) m a (bitsOf from) (now next) ⌝ }
-    ensures { λ r. ⌜ Scanned list (now (d .entry)) m a (bitsOf from) (bitsOf r) (now (next .exit)) ⌝ }
+    requires { ⌜ Scanning list (now d) m a (bitsOf from) (now notes) ⌝ }
+    ensures { λ r. ⌜ Scanned list (now (d .entry)) m a (bitsOf from) (bitsOf r) (now (notes .exit)) ⌝ }
 {
-    let mut seen = from;
-    for k in 0..m {
-        let b = list[k];
-        seen = look(d, k, event(b.start), event(b.end), b.weight, a, seen, next);
-    }
-    seen
+    scan(&list, m, d, a, from, notes)
 }
 
 // Marks events from a backwards until b is marked.
@@ -89,51 +126,43 @@ fn mark(
     d: &[i32],
     a: usize,
     b: usize,
-    next: &mut [usize],
+    notes: &mut [u16],
 ) -> eventset::EventSet
-    requires { ⌜ Marking list (now d) m a b (now next) ⌝ }
-    ensures { λ r. ⌜ Reached list (now (d .entry)) m a b (bitsOf r) (now (next .exit)) ⌝ }
+    requires { ⌜ Marking list (now d) m a b (now notes) ⌝ }
+    ensures { λ r. ⌜ Reached list (now (d .entry)) m a b (bitsOf r) (now (notes .exit)) ⌝ }
 {
     let mut seen = eventset::put(eventset::empty(), a);
     while !eventset::has(seen, b) {
-        seen = scan(list, m, d, a, seen, next);
+        seen = scan_listed(list, m, d, a, seen, notes);
     }
     seen
 }
 
 // The events on the way from b to a by the notes.
-fn events(list: [Bound; MOST_BOUNDS], next: &[usize], a: usize, b: usize) -> eventset::EventSet
-    requires { ⌜ Visiting list (now next) a b ⌝ }
-    ensures { λ r. ⌜ Visited list (now (next .entry)) a b (bitsOf r) ⌝ }
+fn events(notes: &[u16], a: usize, b: usize) -> eventset::EventSet
+    requires { ⌜ Visiting (now notes) a b ⌝ }
+    ensures { λ r. ⌜ Visited (now (notes .entry)) a b (bitsOf r) ⌝ }
 {
     let mut seen = eventset::empty();
     let mut e = b;
     while e != a {
         seen = eventset::put(seen, e);
-        let k = next[e];
-        e = event(list[k].end);
+        e = notes[2 * e] as usize;
     }
     eventset::put(seen, e)
 }
 
 // Writes the codes of a closed chain from one of its events on, by the notes: as many steps as it has events. Returns their number.
-fn write(
-    list: [Bound; MOST_BOUNDS],
-    next: &[usize],
-    from: usize,
-    seen: eventset::EventSet,
-    out: &mut [u16],
-) -> usize
-    requires { ⌜ Writing list (now next) from (ones (bitsOf seen)) (now out) ⌝ }
-    ensures { λ r. ⌜ Written list (now (next .entry)) from (ones (bitsOf seen)) (now (out .entry)) r (now (out .exit)) ⌝ }
+fn write(notes: &[u16], from: usize, seen: eventset::EventSet, out: &mut [u16]) -> usize
+    requires { ⌜ Writing (now notes) from (ones (bitsOf seen)) (now out) ⌝ }
+    ensures { λ r. ⌜ Written (now (notes .entry)) from (ones (bitsOf seen)) (now (out .entry)) r (now (out .exit)) ⌝ }
 {
     let count = eventset::count(seen);
     let mut e = from;
     let mut steps = 0;
     while steps < count {
-        let b = list[next[e]];
-        out[steps] = b.code;
-        e = event(b.end);
+        out[steps] = notes[2 * e + 1];
+        e = notes[2 * e] as usize;
         steps += 1;
     }
     steps
@@ -146,12 +175,12 @@ pub fn chain_of(list: [Bound; MOST_BOUNDS], m: usize, d: &[i32], out: &mut [u16]
     ensures { λ r. ⌜ Found (listed list (m + 1)) (now (out .entry)) r (now (out .exit)) ⌝ }
 {
     let last = list[m];
-    let a = event(last.start);
-    let b = event(last.end);
-    let mut next = [0; WIDTH];
-    mark(list, m, d, a, b, &mut next);
-    next[a] = m;
-    let seen = events(list, &next, a, b);
+    let a = last.start as usize;
+    let b = last.end as usize;
+    let mut notes = [0; NOTES];
+    mark(list, m, d, a, b, &mut notes);
+    note(&mut notes, a, last.end, last.code);
+    let seen = events(&notes, a, b);
     let from = eventset::lowest(seen);
-    write(list, &next, from, seen, out)
+    write(&notes, from, seen, out)
 }

@@ -21,19 +21,16 @@ returns-2 : tie.Need-returns-2
 returns-2 c = kept refl refl (λ t h. absurd (not-both h (sym (c .before .has2 .ensures) ∙ not-true _ (c .if2 .taken))))
 
 tight-requires : tie.Need-tight-requires
-tight-requires c κs = search needs
+tight-requires c κs = let s = c .before .before .before .before .before in rw (toZ-ofZ (s .fits .weight)) (s .pre .0)
 
 returns-3 : tie.Need-returns-3
 returns-3 c =
     let s = c .before .before .before .before .before .before .before in
-    let t = rw (toZ-ofZ (s .fits .w)) at (c .before .tight .ensures) in
+    let t = rw (toZ-ofZ (s .fits .weight)) at (c .before .tight .ensures) in
     kept refl refl (λ g h. absurd (t .left (not-true _ (c .if3 .taken)) g))
 
-mul-next : tie.Need-mul-next
-mul-next c = search needs
-
-slice-write-next : tie.Need-slice-write-next
-slice-write-next c = search needs
+note-requires : tie.Need-note-requires
+note-requires c κs = search needs
 
 put-requires : tie.Need-put-requires
 put-requires c κs = search needs
@@ -43,16 +40,17 @@ same-length c = search needs
 
 returns-4 : tie.Need-returns-4
 returns-4 c =
-    let p = c .before .before in
+    let e = c .before .before .before .before .before in
+    let p = e .before in
     let q = p .before .before in
     let s = q .before .before .before .before in
-    let t = rw (toZ-ofZ (s .fits .w)) at (p .tight .ensures) in
+    let t = rw (toZ-ofZ (s .fits .weight)) at (p .tight .ensures) in
     marked
     (sym (q .before .before .has .ensures) ∙ q .before .if1 .left)
     (sym (q .has2 .ensures) ∙ not-false _ (p .before .if2 .left))
-    (t .taken (not-false _ (c .before .if3 .left)))
+    (t .taken (not-false _ (e .if3 .left)))
     (c .put .ensures)
-    refl
+    (c .before .before .before .note .ensures)
 
 pub look-spec : {M : Type 1} → statement M
 look-spec =
@@ -64,8 +62,7 @@ look-spec =
     returns-2
     tight-requires
     returns-3
-    mul-next
-    slice-write-next
+    note-requires
     put-requires
     same-length
     returns-4)

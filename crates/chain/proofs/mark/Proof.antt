@@ -12,10 +12,10 @@ use Rattle.chain.proofs.mark.Statement.{statement}
 use Rattle.chain.proofs.mark.Tie as tie
 
 abbrev Inv-loop : tie.InvT-loop
-Inv-loop list m d a b next₀ seen₀ next seen = Marked list d m a (bitsOf seen) next × (length next ≡ length next₀)
+Inv-loop list m d a b notes₀ seen₀ notes seen = Marked list d m a (bitsOf seen) notes × (length notes ≡ length notes₀)
 
 abbrev μ-loop : tie.MeasureT-loop
-μ-loop list m d a b next₀ seen₀ next seen = WIDTH - ones (bitsOf seen)
+μ-loop list m d a b notes₀ seen₀ notes seen = WIDTH - ones (bitsOf seen)
 
 empty-requires : tie.Need-empty-requires Inv-loop μ-loop
 empty-requires c κs = tt
@@ -26,13 +26,13 @@ put-requires c κs = let p = c .before .before .pre in omega (arith, p .to, p .t
 loop-holds : tie.Need-loop-holds Inv-loop μ-loop
 loop-holds c =
     let p = c .before .before .before .pre in
-    (record { tree = root (c .put .ensures ∙ ap (λ (x : ℕ). putIn x (c .before .before .before .args .a)) (c .before .empty .ensures)); room = p .room; low = p .low }, refl)
+    (record { tree = root (c .put .ensures ∙ ap (λ (x : ℕ). putIn x (c .before .before .before .args .a)) (c .before .empty .ensures)); notes = p .notes }, refl)
 
 has-requires : tie.Need-has-requires Inv-loop μ-loop
 has-requires c κs = let p = c .before .before .before .before .pre in omega (arith, p .from, p .table .events)
 
-scan-requires : tie.Need-scan-requires Inv-loop μ-loop
-scan-requires c κs =
+scan-listed-requires : tie.Need-scan-listed-requires Inv-loop μ-loop
+scan-listed-requires c κs =
     let p = c .before .before .before .before .before .before .before .pre in
     record { n = p .n; given = p .given; table = p .table; to = p .to; marked = c .before .before .before .loop .inv .0 }
 
@@ -41,7 +41,7 @@ loop-less c =
     let h = c .before .before .before .before .before .before .loop in
     let q = c .before .before .before .before in
     let p = c .before .before .before .before .before .before .before .before .before .before .pre in
-    let r = c .before .before .scan in
+    let r = c .before .before .scan-listed in
     -- `.ok` has the range of the set's number
     omega (
       arith,
@@ -52,7 +52,7 @@ loop-less c =
 loop-again : tie.Need-loop-again Inv-loop μ-loop
 loop-again c =
     let h = c .before .before .before .before .before .before .loop in
-    (c .before .before .scan .ensures .marked, c .before .before .scan .kept .1 .1 .1 .1 .1 .0 ∙ h .inv .1)
+    (c .before .before .scan-listed .ensures .marked, c .before .before .scan-listed .kept .1 .1 .1 .1 .1 .0 ∙ h .inv .1)
 
 same-length : tie.Need-same-length Inv-loop μ-loop
 same-length c = c .before .before .loop .inv .1
@@ -70,7 +70,7 @@ mark-spec =
     put-requires
     loop-holds
     has-requires
-    scan-requires
+    scan-listed-requires
     loop-less
     loop-again
     same-length
