@@ -13,7 +13,7 @@ use Rattle.eventset.specs.Sets.{WIDTH, member, putIn}
 use Rattle.eventset.proofs.Laws.{put-same, put-keeps, count-fresh, one-member}
 use Rattle.chain.specs.declared.Bound.{Bound as Entry}
 use Rattle.chain.specs.Clash.{boundAt, TightAt, Lead, here, by}
-use Rattle.chain.specs.Marks.{Notes, Look, LookAt, kept, marked, Grow, same, more, Tree, root, put, Marked, Scanned}
+use Rattle.chain.specs.Marks.{Notes, LookAt, kept, marked, Grow, same, more, Tree, root, put, Marked, Scanned}
 use Rattle.chain.proofs.Notes.{length-note, notes-note}
 
 -- a test is not both

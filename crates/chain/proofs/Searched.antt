@@ -1,8 +1,8 @@
 -- A loop in a walk by hand: from a state s with the fact P t s, where each turn leaves the loop or goes on at a state with less to do, it
--- runs. With it the machine's tests of a counter: `taken` at a turn that goes on, `left` at the one that leaves, `one-more` of the step.
-use mathlib.Core.Path.{_≡_, refl, _∙_, ap}
-use Prim.Native.Nat.{ℕ, zero, suc, _+_, _<_}
-use native.Mathlib.Nat.{add-zero, add-suc, lt-irrefl}
+-- runs. With it the machine's tests of a counter: `taken` at a turn that goes on, `left` at the one that leaves.
+use mathlib.Core.Path.{_≡_, refl}
+use Prim.Native.Nat.{ℕ, _<_}
+use native.Mathlib.Nat.{lt-irrefl}
 use mathlib.Core.Bool.{Bool, true, false}
 use lib.WfN.{Nat·lt-wfRel}
 use lib.Dec.{T, ltb, lt→ltb, ltb→lt}
@@ -27,9 +27,6 @@ taken i n small = holds (ltb i n) (lt→ltb i n small)
 
 pub left : (n : ℕ) → ltb n n ≡ false
 left n = fails (ltb n n) (λ a. lt-irrefl n (ltb→lt n n a))
-
-pub one-more : (i : ℕ) → i + 1 ≡ suc i
-one-more i = add-suc i zero ∙ ap suc (add-zero i)
 
 module _ {M : Type 1} (𝓤 : URA M) (H : Heap 𝓤) (A : Atoms 𝓤) (W : Given 𝓤 H A) (𝓣 : Tables 𝓤 H) (E : Env 𝓤 H) (turn : Body) (Left : Out → SProp 𝓤) (S : Type 0) (At : S → SProp 𝓤) (P : ℕ → S → Type 0)
     (one : (t : ℕ) (s : S) (X : SProp 𝓤) → P t s → ((u : ℕ) (r : S) → u < t → P u r → ent 𝓤 (At r) X) → ent 𝓤 (At s) (Wp 𝓤 H (𝓣 .C) (𝓣 .Λ) E turn (afterTurn 𝓤 H X Left))) where

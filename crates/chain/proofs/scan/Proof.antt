@@ -33,7 +33,7 @@ use denote.Memory.{pointee}
 use denote.Plain.{uint-vals, uint-tells, uint-makes}
 use denote.Builtin.{u16, usize, i32}
 use denote.Ref.{RefT}
-use denote.Slice.{sliceTy, sliceVal, ShrSlice, MutSlice, Room, finally, slice-vals, shr-slice-tells, mut-slice-tells, shr-slice-copy}
+use denote.Slice.{sliceTy, sliceVal, ShrSlice, MutSlice, Room, slice-vals, shr-slice-tells, mut-slice-tells, shr-slice-copy}
 use denote.Signature.{plain}
 use denote.Steps.{nothing, owned, peeks, heard}
 use denote.Struct.Laws as LL
