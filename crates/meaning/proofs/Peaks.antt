@@ -136,7 +136,7 @@ peaked-complete ls mild s = rises-back 0 ls (higher-next 0 ls zero-le (λ i j k 
 pub peaked-decides : (ls : List ℕ) → ((i : ℕ) → lv ls i ≤ TOP-LEVEL) → (peaked ls ≡ true) ↔ SinglePeaked ls
 peaked-decides ls mild = (peaked-sound ls, peaked-complete ls mild)
 
--- ---- the run found from both ends inward: what stands past the last level is below every grade, and one level more is below y
+-- ---- what stands past the last level is below every grade
 
 pub past-end : {y : ℕ} → 1 ≤ y → (ls : List ℕ) (j : ℕ) → length ls ≤ j → getD ls j 0 < y
 past-end lo ls j h = omega (arith, List·getD-eq-default ls 0 {n = j} h)
