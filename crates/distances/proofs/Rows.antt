@@ -1,12 +1,14 @@
 -- Rows of STRIDE entries in one list: an entry's place gives its row and column, and a row more is swept at a time.
 use Prim.Native.Nat.{ℕ, _+_, _*_, _/_, _%_, _<_, _≤_}
-use mathlib.Core.Path.{_≡_, refl, ap, ap₂, _∙_}
+use mathlib.Core.Path.{_≡_, refl, sym, ap, ap₂, _∙_}
 use mathlib.Core.Bool.{false}
 use mathlib.Core.List.{List}
 use native.Mathlib.Omega.{arith}
+use native.Mathlib.Decide.{decLt}
 use native.Mathlib.Nat.{not-suc-le-zero}
 use lib.IntN.{ℤ, pos, _+ℤ_}
 use lib.ListN.{length, getD}
+use lib.Seq.{ext-getD}
 use lib.Signed.{_≤ℤ_, ltZ}
 use borrow.Author.Count.{below-more}
 use Rattle.ticks.specs.Min.{minZ}
@@ -88,3 +90,18 @@ kept-already {d = d} a b w c la lb e = record {
   beside = λ i j p q r. refl;
   rest = λ k l. refl;
 }
+
+-- an entry stands in a row and a column: what was written and what was kept leave one result only
+pub one-result : {n : ℕ} {d d₁ d₂ : List ℤ} {f : ℕ → ℕ → ℤ} → length d ≡ ENTRIES → n ≤ STRIDE → Changed n n d d₁ f → Changed n n d d₂ f → d₁ ≡ d₂
+one-result {n} {d} {d₁} {d₂} size few r s = ext-getD (pos 0) d₁ d₂ (r .long ∙ sym (s .long)) (λ k l. same k)
+  where
+    apart : (k : ℕ) → k / STRIDE * STRIDE + k % STRIDE ≡ k
+    apart k = omega arith
+
+    here : (i j : ℕ) → j < STRIDE → Dec (i < n) → Dec (j < n) → at d₁ i j ≡ at d₂ i j
+    here i j l (yes p) (yes q) = r .done i j p q ∙ sym (s .done i j p q)
+    here i j l (yes p) (no q) = r .beside i j p (omega arith) l ∙ sym (s .beside i j p (omega arith) l)
+    here i j l (no p) q = r .rest (i * STRIDE + j) (omega arith) ∙ sym (s .rest (i * STRIDE + j) (omega arith))
+
+    same : (k : ℕ) → getD d₁ k (pos 0) ≡ getD d₂ k (pos 0)
+    same k = rw (apart k) at (here (k / STRIDE) (k % STRIDE) (omega arith) (decLt (k / STRIDE) n) (decLt (k % STRIDE) n))
