@@ -28,14 +28,14 @@ use Rattle.distances.specs.Sweep.{Swept}
 use Rattle.distances.proofs.Sweep.{swept-written}
 use Rattle.chain.specs.declared.Bound.{Bound as Entry}
 use Rattle.chain.specs.Clash.{listed, Broken, Found}
-use Rattle.solver.specs.Listed.{Listed}
-use Rattle.solver.specs.Tried.{Trying, Tried}
-use Rattle.solver.specs.Climbed.{Ready, Climbed}
-use Rattle.solver.specs.Memory.{InMemory}
+use Rattle.bounds.specs.Listed.{Listed}
+use Rattle.bounds.specs.Tried.{Trying, Tried}
+use Rattle.ladder.specs.Climbed.{Ready, Climbed}
+use Rattle.ladder.specs.Memory.{InMemory}
 use Rattle.solver.specs.Settled.{named, Settled, Solves}
 use Rattle.solver.specs.declared.Outcome.{Outcome}
 use Rattle.solver.specs.declared.Outcome.the-variants as Out
-use Rattle.solver.proofs.Ends.{Chained, start-net, start-trying, all-stands, clash-broken, found-chained}
+use Rattle.bounds.proofs.Ends.{Chained, start-net, start-trying, all-stands, clash-broken, found-chained}
 
 -- ---- the outcome of a plan in memory
 

@@ -10,7 +10,7 @@ use Rattle.meaning.specs.Reading.{plan}
 use Rattle.meaning.specs.Outcome as O
 use Rattle.meaning.specs.Outcome.{Areas, Right, number, place, written, Promise}
 use Rattle.plan.specs.declared.Plan.{Plan}
-use Rattle.solver.specs.Memory.{InMemory}
+use Rattle.ladder.specs.Memory.{InMemory}
 use Rattle.solver.specs.declared.Outcome.{Outcome}
 use Rattle.solver.specs.declared.Outcome.the-variants.{Solved, NoTimetable, Refused}
 

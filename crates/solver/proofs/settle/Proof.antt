@@ -2,8 +2,8 @@
 -- climbed and the least times are read off. Each step is a law of `Settles`.
 use borrow.Author.Needs.{needs}
 use Rattle.meaning.specs.Plan as M
-use Rattle.solver.specs.Memory.{InMemory}
-use Rattle.solver.specs.Climbed.{Ready}
+use Rattle.ladder.specs.Memory.{InMemory}
+use Rattle.ladder.specs.Climbed.{Ready}
 use Rattle.solver.proofs.Settles.{settle-trying, settle-broken, settle-ready, settle-chained, chained-settled, climbed-timing, climbed-settled}
 use Rattle.solver.proofs.settle.Statement.{statement}
 use Rattle.solver.proofs.settle.Tie as tie

@@ -1,0 +1,5 @@
+-- The laws that belong to no one function; `Places` and `Ends` have those that the entry point uses.
+pub mod Lists
+pub mod Tries
+pub mod Places
+pub mod Ends

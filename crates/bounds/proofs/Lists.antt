@@ -1,0 +1,111 @@
+-- The list of bounds grows by two at a time: those of an event, or those of a record, stand behind what is there.
+use mathlib.Core.Path.{_≡_, refl, ap, sym, _∙_}
+use mathlib.Core.List.{List, [], _∷_, _++_, map, append-nil, append-assoc, map-append}
+use Prim.Native.Nat.{ℕ, zero, suc, _+_, _*_, _-_, _≤_, _<_}
+use native.Mathlib.Nat.{le-of-suc-le-suc, not-suc-le-zero}
+use native.Mathlib.Numerals.{add-one}
+use native.Mathlib.Omega.{arith}
+use lib.ListN.{length, getD, take, set, length-set}
+use lib.Seq.{take-suc-set, take-length}
+use lib.IntN.{negℤ}
+use mir.Syntax.{w32}
+use mir.Val.{SFits}
+use Rattle.ticks.proofs.Ticks.{ticks}
+use Rattle.meaning.specs.Plan as M
+use Rattle.meaning.specs.Bounds.{Bound, upper, lower, horizonUpper, horizonLower, recordBounds, horizonBounds}
+use Rattle.meaning.proofs.Faultless.{GoodRecord}
+use Rattle.plan.specs.declared.Plan.{Plan}
+use Rattle.plan.specs.declared.Record.{Record as Row}
+use Rattle.plan.specs.Held.{rowOf, blank}
+use Rattle.plan.proofs.Use.{held-row}
+use Rattle.chain.specs.declared.Bound.{Bound as Entry}
+use Rattle.chain.specs.Clash.{MOST-BOUNDS, boundOf, listed}
+use Rattle.bounds.specs.Listed.{Planned, Listed}
+use Rattle.bounds.specs.Entries.{upperEntry, lowerEntry, Front}
+
+-- ---- one bound more, and two
+
+listed-set : (list : List Entry) (m : ℕ) (a : Entry) → m < length list → listed (set list m a) (suc m) ≡ listed list m ++ (boundOf a ∷ [])
+listed-set list m a h = ap (λ l. map boundOf l) (take-suc-set list m a h) ∙ map-append boundOf (take m list) (a ∷ [])
+
+front-one : {list : List Entry} {m : ℕ} {bs : List Bound} (k : ℕ) (a : Entry) {β : Bound} → Front list m bs → k ≡ m → m < MOST-BOUNDS → boundOf a ≡ β →
+    Front (set list k a) (suc m) (bs ++ (β ∷ []))
+front-one {list} {m} k a f e h q = rw e (record {
+  long = length-set list m a ∙ f .long;
+  bounds = rw (← q, ← (f .bounds)) (listed-set list m a (omega (arith, f .long)));
+})
+
+pub front-two : {list : List Entry} {m : ℕ} {bs : List Bound} (k l n : ℕ) (a b : Entry) {β γ : Bound} → Front list m bs → k ≡ m → l ≡ m + 1 → n ≡ m + 2 → n ≤ MOST-BOUNDS →
+    boundOf a ≡ β → boundOf b ≡ γ → Front (set (set list k a) l b) n (bs ++ (β ∷ γ ∷ []))
+front-two {list} {m} {bs} k l n a b {β} {γ} f ek el en h p q =
+    let e : n ≡ suc (suc m) = omega arith in
+    rw (e, ← append-assoc bs (β ∷ []) (γ ∷ [])) (front-one l b (front-one k a f ek (omega arith) p) (omega arith) (omega arith) q)
+
+-- ---- the bounds of one event more, and of one record more
+
+horizon-more : (H e m f : ℕ) → f ≡ e + m → horizonBounds H e (suc m) ≡ horizonBounds H e m ++ (horizonUpper H f ∷ horizonLower f ∷ [])
+horizon-more H e zero f q = let r : f ≡ e = omega arith in rw r
+horizon-more H e (suc m) f q = ap {B = List Bound} (λ l. horizonUpper H e ∷ horizonLower e ∷ l) (horizon-more H (suc e) m f (omega arith))
+
+records-more : (k : ℕ) (rs : List M.Record) (i j : ℕ) → j ≡ k + i → i < length rs →
+    recordBounds k (take (suc i) rs) ≡ recordBounds k (take i rs) ++ (upper j (getD rs i M.nothing) ∷ lower j (getD rs i M.nothing) ∷ [])
+records-more k [] i j e h = absurd (not-suc-le-zero h)
+records-more k (r ∷ rs) zero j e h = let q : j ≡ k = omega arith in rw q
+records-more k (r ∷ rs) (suc i) j e h = ap {B = List Bound} (λ l. upper k r ∷ lower k r ∷ l) (records-more (suc k) rs i j (omega arith) (le-of-suc-le-suc h))
+
+-- ---- a record as it stands in memory
+
+-- its entries are its bounds
+pub entry-upper : (r : M.Record) {row : Row} (k : ℕ) → row ≡ rowOf (row .first) r → boundOf (upperEntry k row) ≡ upper k r
+entry-upper r k e = ap (λ (x : Row). boundOf (upperEntry k x)) e
+
+pub entry-lower : (r : M.Record) {row : Row} (k : ℕ) → row ≡ rowOf (row .first) r → boundOf (lowerEntry k row) ≡ lower k r
+entry-lower r k e = ap (λ (x : Row). boundOf (lowerEntry k x)) e
+
+-- the negative of its lo fits 32 bits
+low-fits : {n : ℕ} {r : M.Record} {row : Row} → GoodRecord n r → row ≡ rowOf (row .first) r → SFits w32 (negℤ (row .lo))
+low-fits {r = r} g e = rw e (omega (ticks, g .lowest, g .ordered, g .highest))
+
+pub row-fits : {h : Plan} → Planned h → (k : ℕ) → k < h .count → SFits w32 (negℤ (getD (h .records) k blank .lo))
+row-fits s k l = let m : k < length (s .plan .records) = omega (arith, s .holds .count) in low-fits (s .faultless .each k m) (held-row (s .holds) k)
+
+-- ---- the two loops
+
+-- the horizon's bounds before event e
+abbrev pub Horizon-so-far : List Entry → ℕ → ℕ → Type 0
+Horizon-so-far list H e = Front list (2 * (e - 1)) (horizonBounds H 1 (e - 1))
+
+pub horizon-none : {list : List Entry} (H : ℕ) → length list ≡ MOST-BOUNDS → Horizon-so-far list H 1
+horizon-none H l = record { long = l; bounds = refl }
+
+pub horizon-next : {list : List Entry} {H e : ℕ} (a b : Entry) → Horizon-so-far list H e → 1 ≤ e → 2 * e ≤ MOST-BOUNDS →
+    boundOf a ≡ horizonUpper H e → boundOf b ≡ horizonLower e → Horizon-so-far (set (set list (2 * e - 2) a) (2 * e - 1) b) H (e + 1)
+horizon-next {list} {H} {e} a b f low room p q =
+    let s : (e + 1) - 1 ≡ suc (e - 1) = omega arith in
+    rw (s, horizon-more H 1 (e - 1) e (omega arith)) (front-two (2 * e - 2) (2 * e - 1) (2 * suc (e - 1)) a b f (omega arith) (omega arith) (omega arith) (omega arith) p q)
+
+-- the bounds of the first k records behind the first `base`
+pub record RecordsSoFar (list₀ : List Entry) (base : ℕ) (rs : List M.Record) (list : List Entry) (k : ℕ) : Type 0 where
+  pub front : Front list (base + 2 * k) (listed list₀ base ++ recordBounds 0 (take k rs))
+
+pub records-none : {list : List Entry} {base : ℕ} {rs : List M.Record} → length list ≡ MOST-BOUNDS → RecordsSoFar list base rs list 0
+records-none {list} {base} l = let e : base + 0 ≡ base = omega arith in record { front = record { long = l; bounds = rw e (sym (append-nil (listed list base))) } }
+
+pub records-next : {list₀ list : List Entry} {base k : ℕ} {rs : List M.Record} (row : Row) → RecordsSoFar list₀ base rs list k → k < length rs → base + 2 * k + 2 ≤ MOST-BOUNDS →
+    row ≡ rowOf (row .first) (getD rs k M.nothing) → RecordsSoFar list₀ base rs (set (set list (base + 2 * k) (upperEntry k row)) (base + 2 * k + 1) (lowerEntry k row)) (k + 1)
+records-next {list₀} {list} {base} {k} {rs} row f l room at = record {
+  front =
+      rw (add-one k, records-more 0 rs k k (omega arith) l, ← append-assoc (listed list₀ base) (recordBounds 0 (take k rs)) (upper k (getD rs k M.nothing) ∷ lower k (getD rs k M.nothing) ∷ []))
+      (front-two (base + 2 * k) (base + 2 * k + 1) (base + 2 * suc k) (upperEntry k row) (lowerEntry k row) (f .front) refl refl (omega arith) (omega arith) (entry-upper (getD rs k M.nothing) k at) (entry-lower (getD rs k M.nothing) k at));
+}
+
+pub records-all : {list₀ list : List Entry} {base k : ℕ} {rs : List M.Record} → RecordsSoFar list₀ base rs list k → k ≡ length rs → Front list (base + 2 * length rs) (listed list₀ base ++ recordBounds 0 rs)
+records-all {rs = rs} f e = rw (e, take-length rs) at (f .front)
+
+-- ---- both
+
+pub both-listed : {p : M.Plan} {n H : ℕ} {list list′ : List Entry} → n ≡ p .events → H ≡ p .horizon → Front list (2 * (n - 1)) (horizonBounds H 1 (n - 1)) →
+    Front list′ (2 * (n - 1) + 2 * length (p .records)) (listed list (2 * (n - 1)) ++ recordBounds 0 (p .records)) → Listed p list′
+both-listed {p} {list = list} en eH f g =
+    let b = rw (en, eH) at (f .bounds) in
+    record { long = g .long; all = rw (b) at (rw en at (g .bounds)) }

@@ -1,0 +1,88 @@
+-- `bounds::horizon_bounds` meets its contract: before event e the list has two bounds for each lesser event but 0.
+use Prim.Native.Nat.{_-_, _≤_}
+use native.Mathlib.Omega.{arith}
+use mathlib.Core.Path.{_≡_, refl}
+use Rattle.bounds.proofs.Lists.{Horizon-so-far, horizon-none, horizon-next}
+use Rattle.bounds.proofs.horizon_bounds.Statement.{statement}
+use Rattle.bounds.proofs.horizon_bounds.Tie as tie
+
+abbrev Inv-loop : tie.InvT-loop
+Inv-loop n h list₀ e₀ list e = (1 ≤ e) × (e ≤ n) × Horizon-so-far list h e
+
+abbrev μ-loop : tie.MeasureT-loop
+μ-loop n h list₀ e₀ list e = n - e
+
+nothing-requires : tie.Need-nothing-requires Inv-loop μ-loop
+nothing-requires c κs = tt
+
+loop-holds : tie.Need-loop-holds Inv-loop μ-loop
+loop-holds c = (omega arith, omega arith, horizon-none (c .before .args .h) refl)
+
+horizon-upper-requires : tie.Need-horizon-upper-requires Inv-loop μ-loop
+horizon-upper-requires c κs = (omega arith, omega arith)
+
+mul-list : tie.Need-mul-list Inv-loop μ-loop
+mul-list c = omega arith
+
+sub-list : tie.Need-sub-list Inv-loop μ-loop
+sub-list c = omega arith
+
+mul-list-2 : tie.Need-mul-list-2 Inv-loop μ-loop
+mul-list-2 c = omega arith
+
+array-set-from-list : tie.Need-array-set-from-list Inv-loop μ-loop
+array-set-from-list c = omega arith
+
+horizon-lower-requires : tie.Need-horizon-lower-requires Inv-loop μ-loop
+horizon-lower-requires c κs = omega arith
+
+mul-list-3 : tie.Need-mul-list-3 Inv-loop μ-loop
+mul-list-3 c = omega arith
+
+sub-list-2 : tie.Need-sub-list-2 Inv-loop μ-loop
+sub-list-2 c = omega arith
+
+mul-list-4 : tie.Need-mul-list-4 Inv-loop μ-loop
+mul-list-4 c = omega arith
+
+array-set-from-list-2 : tie.Need-array-set-from-list-2 Inv-loop μ-loop
+array-set-from-list-2 c = omega arith
+
+add-e : tie.Need-add-e Inv-loop μ-loop
+add-e c = omega arith
+
+loop-less : tie.Need-loop-less Inv-loop μ-loop
+loop-less c = omega arith
+
+loop-again : tie.Need-loop-again Inv-loop μ-loop
+loop-again c =
+    let u = c .before .horizon-upper in
+    let l = c .horizon-lower in
+    let inv = c .before .before .before .loop .inv in
+    (omega arith, omega arith, horizon-next (u .result) (l .result) (inv .2) (inv .0) (omega arith) (u .ensures) (l .ensures))
+
+returns : tie.Need-returns Inv-loop μ-loop
+returns c = let e : c .before .loop .e ≡ c .before .before .before .args .n = omega arith in rw e at (c .before .loop .inv .2)
+
+pub horizon-bounds-spec : {M : Type 1} → statement M
+horizon-bounds-spec =
+    tie.close
+    (tie.spec
+    Inv-loop
+    μ-loop
+    nothing-requires
+    loop-holds
+    horizon-upper-requires
+    mul-list
+    sub-list
+    mul-list-2
+    array-set-from-list
+    horizon-lower-requires
+    mul-list-3
+    sub-list-2
+    mul-list-4
+    array-set-from-list-2
+    add-e
+    loop-less
+    loop-again
+    returns)

@@ -1,0 +1,36 @@
+-- `bounds::record_lower` meets its contract: the weight is the negative of the record's lo.
+use mathlib.Core.Path.{_≡_, ap₂, _∙_}
+use Prim.Native.Nat.{ℕ}
+use lib.IntN.{ℤ, negℤ}
+use mir.Syntax.{w32}
+use mir.Val.{toZ, ofZ}
+use borrow.Author.Needs.{needs}
+use Rattle.ticks.proofs.Ticks.{back}
+use Rattle.bounds.proofs.record_lower.Statement.{statement}
+use Rattle.bounds.proofs.record_lower.Tie as tie
+
+minus-requires : tie.Need-minus-requires
+minus-requires c κs = search needs
+
+mul-as-code : tie.Need-mul-as-code
+mul-as-code c = search needs
+
+add-as-code : tie.Need-add-as-code
+add-as-code c = search needs
+
+as-code-requires : tie.Need-as-code-requires
+as-code-requires c κs = search needs
+
+-- what `minus` returned, read back
+negative : (c : tie.After-minus) → toZ w32 (ofZ w32 (c .minus .result)) ≡ negℤ (c .before .before .args .r .lo)
+negative c =
+    let m = c .minus in
+    back w32 (m .result) (m .ok) ∙ (rw (back w32 (c .before .before .args .r .lo) (c .before .struct-told .given .1 .1 .1 .1 .0 .1)) at (m .ensures))
+
+returns : tie.Need-returns
+returns c =
+    let r = c .before .before .before .args .r in
+    ap₂ (λ (q : ℕ) (w : ℤ). record { start = r .b; «end» = r .a; code = q; weight = w }) (c .as-code .ensures) (negative (c .before))
+
+pub record-lower-spec : {M : Type 1} → statement M
+record-lower-spec = tie.close (tie.spec minus-requires mul-as-code add-as-code as-code-requires returns)

@@ -1,0 +1,101 @@
+-- `bounds::with_records` meets its contract: before record k the list has two bounds for each record before it, behind the first `base`.
+use Prim.Native.Nat.{_-_, _≤_, _<_}
+use lib.ListN.{length}
+use native.Mathlib.Omega.{arith}
+use Rattle.meaning.specs.Plan as M
+use Rattle.plan.specs.Held.{Holds}
+use Rattle.plan.proofs.Use.{held-row}
+use Rattle.bounds.proofs.Lists.{RecordsSoFar, records-none, records-next, records-all, row-fits}
+use Rattle.bounds.proofs.with_records.Statement.{statement}
+use Rattle.bounds.proofs.with_records.Tie as tie
+
+abbrev Inv-loop : tie.InvT-loop
+Inv-loop base h all₀ k₀ k-end all k = (k ≤ h .count) × ((p : M.Plan) → Holds p h → RecordsSoFar all₀ base (p .records) all k)
+
+abbrev μ-loop : tie.MeasureT-loop
+μ-loop base h all₀ k₀ k-end all k = h .count - k
+
+loop-holds : tie.Need-loop-holds Inv-loop μ-loop
+loop-holds c = (omega arith, λ p s. records-none (c .pre .long))
+
+mul-r : tie.Need-mul-r Inv-loop μ-loop
+mul-r c = omega arith
+
+element-copy-out-r : tie.Need-element-copy-out-r Inv-loop μ-loop
+element-copy-out-r c = omega (arith, c .before .before .pre .room)
+
+record-upper-requires : tie.Need-record-upper-requires Inv-loop μ-loop
+record-upper-requires c κs = omega arith
+
+mul-all : tie.Need-mul-all Inv-loop μ-loop
+mul-all c = omega arith
+
+add-all : tie.Need-add-all Inv-loop μ-loop
+add-all c = omega arith
+
+mul-all-2 : tie.Need-mul-all-2 Inv-loop μ-loop
+mul-all-2 c = omega arith
+
+array-set-from-all : tie.Need-array-set-from-all Inv-loop μ-loop
+array-set-from-all c = omega arith
+
+record-lower-requires : tie.Need-record-lower-requires Inv-loop μ-loop
+record-lower-requires c κs = (omega arith, row-fits (c .before .before .before .before .pre .planned) (c .before .before .before .loop .k) (omega arith))
+
+mul-all-3 : tie.Need-mul-all-3 Inv-loop μ-loop
+mul-all-3 c = omega arith
+
+add-all-2 : tie.Need-add-all-2 Inv-loop μ-loop
+add-all-2 c = omega arith
+
+add-all-3 : tie.Need-add-all-3 Inv-loop μ-loop
+add-all-3 c = omega arith
+
+mul-all-4 : tie.Need-mul-all-4 Inv-loop μ-loop
+mul-all-4 c = omega arith
+
+array-set-from-all-2 : tie.Need-array-set-from-all-2 Inv-loop μ-loop
+array-set-from-all-2 c = omega arith
+
+add-k : tie.Need-add-k Inv-loop μ-loop
+add-k c = omega arith
+
+loop-less : tie.Need-loop-less Inv-loop μ-loop
+loop-less c = omega arith
+
+loop-again : tie.Need-loop-again Inv-loop μ-loop
+loop-again c =
+    let k = c .before .before .before .before .loop .k in (
+      omega arith,
+      λ p s. let l : k < length (p .records) = omega (arith, s .count) in
+          rw (c .before .record-upper .ensures, c .record-lower .ensures)
+          (records-next _ (c .before .before .before .before .loop .inv .1 p s) l (omega (arith, c .before .before .before .before .before .pre .room)) (held-row s k)),
+    )
+
+returns : tie.Need-returns Inv-loop μ-loop
+returns c = λ p s. records-all (c .before .loop .inv .1 p s) (omega (arith, s .count))
+
+pub with-records-spec : {M : Type 1} → statement M
+with-records-spec =
+    tie.close
+    (tie.spec
+    Inv-loop
+    μ-loop
+    loop-holds
+    mul-r
+    element-copy-out-r
+    record-upper-requires
+    mul-all
+    add-all
+    mul-all-2
+    array-set-from-all
+    record-lower-requires
+    mul-all-3
+    add-all-2
+    add-all-3
+    mul-all-4
+    array-set-from-all-2
+    add-k
+    loop-less
+    loop-again
+    returns)

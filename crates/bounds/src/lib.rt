@@ -1,0 +1,189 @@
+// The plan's bounds in one list, and adding them to the matrix up to the first that leaves no timetable.
+ghost use mathlib.Core.Path.{_≡_};
+ghost use mathlib.Core.List.{_++_};
+ghost use Prim.Native.Nat.{_+_, _*_, _-_, _≤_, _<_};
+ghost use lib.ListN.{length};
+ghost use lib.IntN.{pos, negℤ};
+ghost use mir.Syntax.{w32};
+ghost use mir.Val.{SFits};
+ghost use Rattle.meaning.specs.Plan as M;
+ghost use Rattle.meaning.specs.Plan.{MOST-EVENTS, MOST-HORIZON, MOST-RECORDS};
+ghost use Rattle.meaning.specs.Bounds.{horizonUpper, horizonLower, horizonBounds, recordBounds};
+ghost use Rattle.meaning.proofs.Faultless.{WithoutFault};
+ghost use Rattle.plan.specs.Held.{Holds};
+ghost use Rattle.distances.specs.Matrix.{Adding, Added};
+ghost use Rattle.chain.specs.Clash.{boundOf, none, boundAt, listed};
+ghost use Rattle.bounds.specs.Listed.{Planned, Listed};
+ghost use Rattle.bounds.specs.Entries.{upperEntry, lowerEntry, Front, Appending};
+ghost use Rattle.bounds.specs.Tried.{Trying, Tried};
+use chain::Bound;
+use chain::MOST_BOUNDS;
+use plan::Plan;
+use plan::Record;
+
+fn as_event(x: usize) -> u8
+    requires { ⌜ x < 256 ⌝ }
+    ensures { λ r. ⌜ r ≡ x ⌝ }
+{
+    x as u8
+}
+
+fn as_code(x: usize) -> u16
+    requires { ⌜ x < 65536 ⌝ }
+    ensures { λ r. ⌜ r ≡ x ⌝ }
+{
+    x as u16
+}
+
+fn as_weight(x: u32) -> i32
+    requires { ⌜ x ≤ MOST-HORIZON ⌝ }
+    ensures { λ r. ⌜ r ≡ pos x ⌝ }
+{
+    x as i32
+}
+
+// An event as a number.
+pub fn event_of(x: u8) -> usize
+    ensures { λ r. ⌜ r ≡ x ⌝ }
+{
+    x as usize
+}
+
+fn nothing() -> Bound
+    ensures { λ r. ⌜ r ≡ none ⌝ }
+{
+    Bound {
+        start: 0,
+        end: 0,
+        code: 0,
+        weight: 0,
+    }
+}
+
+// The bounds of the horizon h for the event e.
+fn horizon_upper(e: usize, h: u32) -> Bound
+    requires { ⌜ (e < MOST-EVENTS) × (h ≤ MOST-HORIZON) ⌝ }
+    ensures { λ r. ⌜ boundOf r ≡ horizonUpper h e ⌝ }
+{
+    Bound {
+        start: 0,
+        end: as_event(e),
+        code: as_code(512 + 2 * e),
+        weight: as_weight(h),
+    }
+}
+
+fn horizon_lower(e: usize) -> Bound
+    requires { ⌜ e < MOST-EVENTS ⌝ }
+    ensures { λ r. ⌜ boundOf r ≡ horizonLower e ⌝ }
+{
+    Bound {
+        start: as_event(e),
+        end: 0,
+        code: as_code(513 + 2 * e),
+        weight: 0,
+    }
+}
+
+// The bounds of record k.
+fn record_upper(k: usize, r: Record) -> Bound
+    requires { ⌜ k < MOST-RECORDS ⌝ }
+    ensures { λ b. ⌜ b ≡ upperEntry k r ⌝ }
+{
+    Bound {
+        start: r.a,
+        end: r.b,
+        code: as_code(2 * k),
+        weight: r.hi,
+    }
+}
+
+fn record_lower(k: usize, r: Record) -> Bound
+    requires { ⌜ (k < MOST-RECORDS) × SFits w32 (negℤ (r .lo)) ⌝ }
+    ensures { λ b. ⌜ b ≡ lowerEntry k r ⌝ }
+{
+    let lo = r.lo;
+    let down = ticks::minus(lo);
+    Bound {
+        start: r.b,
+        end: r.a,
+        code: as_code(2 * k + 1),
+        weight: down,
+    }
+}
+
+// The horizon's bounds, two for each event other than 0, at the front of a list.
+fn horizon_bounds(n: usize, h: u32) -> [Bound; MOST_BOUNDS]
+    requires { ⌜ (1 ≤ n) × (n ≤ MOST-EVENTS) × (h ≤ MOST-HORIZON) ⌝ }
+    ensures { λ r. ⌜ Front r (2 * (n - 1)) (horizonBounds h 1 (n - 1)) ⌝ }
+{
+    let mut list = [nothing(); MOST_BOUNDS];
+    for e in 1..n {
+        list[2 * e - 2] = horizon_upper(e, h);
+        list[2 * e - 1] = horizon_lower(e);
+    }
+    list
+}
+
+// The list with two bounds for each record behind the first `base`.
+fn with_records(list: [Bound; MOST_BOUNDS], base: usize, h: Plan) -> [Bound; MOST_BOUNDS]
+    requires { ⌜ Appending list base h ⌝ }
+    ensures { λ r. ⌜ ((p : M.Plan) → Holds p h → Front r (base + 2 * length (p .records)) (listed list base ++ recordBounds 0 (p .records))) ⌝ }
+{
+    let mut all = list;
+    for k in 0..h.count {
+        let r = h.records[k];
+        all[base + 2 * k] = record_upper(k, r);
+        all[base + 2 * k + 1] = record_lower(k, r);
+    }
+    all
+}
+
+// The plan's bounds: the horizon's first, then those of the records.
+pub fn list_of(h: Plan) -> [Bound; MOST_BOUNDS]
+    requires { ⌜ Planned h ⌝ }
+    ensures { λ r. ⌜ ((p : M.Plan) → Holds p h → WithoutFault p → Listed p r) ⌝ }
+{
+    with_records(horizon_bounds(h.events, h.horizon), 2 * (h.events - 1), h)
+}
+
+// One bound; false where it leaves no timetable.
+fn try_bound(b: Bound, d: &mut [i32], n: usize) -> bool
+    requires { ⌜ Adding n (boundOf b .start) (boundOf b .end) (boundOf b .weight) (now d) ⌝ }
+    ensures { λ r. ⌜ Added n (boundOf b .start) (boundOf b .end) (boundOf b .weight) (now (d .entry)) (now (d .exit)) r ⌝ }
+{
+    distances::add(d, n, event_of(b.start), event_of(b.end), b.weight)
+}
+
+// Adds the bound at place k.
+fn try_at(list: &[Bound], k: usize, d: &mut [i32], n: usize) -> bool
+    requires { ⌜ (k < length (now list)) × Adding n (boundAt (now list) k .start) (boundAt (now list) k .end) (boundAt (now list) k .weight) (now d) ⌝ }
+    ensures { λ r. ⌜ Added n (boundAt (now (list .entry)) k .start) (boundAt (now (list .entry)) k .end) (boundAt (now (list .entry)) k .weight) (now (d .entry)) (now (d .exit)) r ⌝ }
+{
+    let b = list[k];
+    try_bound(b, d, n)
+}
+
+// Adds the bounds from place `from` up to `to`; the place of the first that leaves no timetable, or `to`.
+fn try_listed(list: &[Bound], from: usize, to: usize, d: &mut [i32], n: usize) -> usize
+    requires { ⌜ Trying (now list) from to n (now d) ⌝ }
+    ensures { λ r. ⌜ Tried (now (list .entry)) from to n (now (d .entry)) (now (d .exit)) r ⌝ }
+{
+    let mut k = from;
+    while k < to {
+        if try_at(list, k, d, n) {
+            k += 1;
+        } else {
+            break;
+        }
+    }
+    k
+}
+
+// The same of an array: it is lent.
+pub fn try_all(list: [Bound; MOST_BOUNDS], from: usize, to: usize, d: &mut [i32], n: usize) -> usize
+    requires { ⌜ Trying list from to n (now d) ⌝ }
+    ensures { λ r. ⌜ Tried list from to n (now (d .entry)) (now (d .exit)) r ⌝ }
+{
+    try_listed(&list, from, to, d, n)
+}

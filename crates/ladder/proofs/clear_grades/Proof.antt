@@ -1,0 +1,69 @@
+-- `ladder::clear_grades` meets its contract: the wishes so far are at grade 0, and counted.
+use Prim.Native.Nat.{_-_, _<_}
+use native.Mathlib.Omega.{arith}
+use Rattle.meaning.specs.Plan.{MOST-RECORDS}
+use Rattle.ladder.proofs.Grades.{ClearedTo, cleared-none, cleared-room, cleared-next, cleared-all}
+use Rattle.ladder.proofs.clear_grades.Statement.{statement}
+use Rattle.ladder.proofs.clear_grades.Tie as tie
+
+abbrev Inv-loop : tie.InvT-loop
+Inv-loop levels₀ h w₀ k₀ k-end levels w k = ClearedTo h k w levels₀ levels
+
+abbrev μ-loop : tie.MeasureT-loop
+μ-loop levels₀ h w₀ k₀ k-end levels w k = k-end - k
+
+loop-holds : tie.Need-loop-holds Inv-loop μ-loop
+loop-holds c = cleared-none
+
+-- a record of the plan is one of the array
+few : (c : tie.In-loop Inv-loop μ-loop) → c .before .loop .k < MOST-RECORDS
+few c =
+    let known = c .before .before .before .pre .0 in
+    omega (arith, known .holds .count, known .faultless .few)
+
+mul-r : tie.Need-mul-r Inv-loop μ-loop
+mul-r c = let l = few c in omega arith
+
+element-copy-out-r : tie.Need-element-copy-out-r Inv-loop μ-loop
+element-copy-out-r c = few c
+
+clear-record-requires : tie.Need-clear-record-requires Inv-loop μ-loop
+clear-record-requires c κs = λ z.
+    let i = c .before .before in
+    let s = i .before .before .before in
+    let u = i .before .loop .inv in
+    omega (arith, cleared-room (s .pre .0) (s .pre .1) u (i .loop-test .taken) z, u .swept .long)
+
+add-k : tie.Need-add-k Inv-loop μ-loop
+add-k c = let l = few (c .before .before .before .before .before) in omega arith
+
+loop-less : tie.Need-loop-less Inv-loop μ-loop
+loop-less c = omega (arith, c .before .before .before .before .before .loop-test .taken)
+
+loop-again : tie.Need-loop-again Inv-loop μ-loop
+loop-again c =
+    let i = c .before .before .before .before .before in
+    let s = i .before .before .before in
+    cleared-next (s .pre .0) (s .pre .1) (i .before .loop .inv) (i .loop-test .taken) (c .before .before .clear-record .ensures)
+
+same-length : tie.Need-same-length Inv-loop μ-loop
+same-length c = c .before .loop .inv .swept .long
+
+returns : tie.Need-returns Inv-loop μ-loop
+returns c = cleared-all (c .before .before .before .pre .1) (c .before .loop .inv) (c .loop-test .left)
+
+pub clear-grades-spec : {M : Type 1} → statement M
+clear-grades-spec =
+    tie.close
+    (tie.spec
+    Inv-loop
+    μ-loop
+    loop-holds
+    mul-r
+    element-copy-out-r
+    clear-record-requires
+    add-k
+    loop-less
+    loop-again
+    same-length
+    returns)
