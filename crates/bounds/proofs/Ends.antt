@@ -12,13 +12,12 @@ use lib.IntN.{ℤ}
 use Rattle.meaning.specs.Plan as M
 use Rattle.meaning.specs.Plan.{Times, Timetable}
 use Rattle.meaning.specs.Bounds.{Chain}
-use Rattle.meaning.specs.Distances.{Keeps}
+use Rattle.meaning.specs.Distances.{Keeps, Stands}
 use Rattle.meaning.specs.Outcome.{over}
 use Rattle.meaning.proofs.Bounds as B
 use Rattle.meaning.proofs.Bounds.{given-horizon-upper, given-horizon-lower, timetable-holds, holds-timetable}
 use Rattle.meaning.proofs.Distances.{Horizon}
-use Rattle.meaning.proofs.Faultless.{WithoutFault}
-use Rattle.meaning.proofs.Stands.{Stands}
+use Rattle.meaning.specs.Faultless.{WithoutFault}
 use Rattle.meaning.proofs.Walks.{Walks, walks-same, walks-horizon}
 use Rattle.distances.specs.Matrix.{at, Net, Started}
 use Rattle.distances.proofs.Net.{started-net, started-means}

@@ -13,7 +13,7 @@ use mir.Val.{SFits}
 use Rattle.ticks.proofs.Ticks.{ticks}
 use Rattle.meaning.specs.Plan as M
 use Rattle.meaning.specs.Bounds.{Bound, upper, lower, horizonUpper, horizonLower, recordBounds, horizonBounds}
-use Rattle.meaning.proofs.Faultless.{GoodRecord}
+use Rattle.meaning.specs.Faultless.{GoodRecord}
 use Rattle.plan.specs.declared.Plan.{Plan}
 use Rattle.plan.specs.declared.Record.{Record as Row}
 use Rattle.plan.specs.Held.{rowOf, blank}

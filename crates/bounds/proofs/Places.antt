@@ -14,7 +14,7 @@ use Rattle.meaning.specs.Plan.{MOST-END, Within}
 use Rattle.meaning.specs.Bounds.{Bound, recordBounds, horizonBounds}
 use Rattle.meaning.proofs.Bounds as B
 use Rattle.meaning.proofs.Bounds.{bound-placed, each-bound}
-use Rattle.meaning.proofs.Faultless.{WithoutFault}
+use Rattle.meaning.specs.Faultless.{WithoutFault}
 use Rattle.chain.specs.declared.Bound.{Bound as Entry}
 use Rattle.chain.specs.Clash.{MOST-BOUNDS, boundOf, boundAt, listed, Fit, Given}
 use Rattle.chain.proofs.Close.{listed-at}

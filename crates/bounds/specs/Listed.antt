@@ -5,7 +5,7 @@ use Prim.Native.Nat.{ℕ, _+_, _*_, _-_}
 use lib.ListN.{length}
 use Rattle.meaning.specs.Plan as M
 use Rattle.meaning.specs.Bounds.{Bound, horizonBounds, recordBounds}
-use Rattle.meaning.proofs.Faultless.{WithoutFault}
+use Rattle.meaning.specs.Faultless.{WithoutFault}
 use Rattle.plan.specs.declared.Plan.{Plan}
 use Rattle.plan.specs.Held.{Holds}
 use Rattle.chain.specs.declared.Bound.{Bound as Entry}

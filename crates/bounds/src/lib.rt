@@ -9,7 +9,7 @@ ghost use mir.Val.{SFits};
 ghost use Rattle.meaning.specs.Plan as M;
 ghost use Rattle.meaning.specs.Plan.{MOST-EVENTS, MOST-HORIZON, MOST-RECORDS};
 ghost use Rattle.meaning.specs.Bounds.{horizonUpper, horizonLower, horizonBounds, recordBounds};
-ghost use Rattle.meaning.proofs.Faultless.{WithoutFault};
+ghost use Rattle.meaning.specs.Faultless.{WithoutFault};
 ghost use Rattle.plan.specs.Held.{Holds};
 ghost use Rattle.distances.specs.Matrix.{Adding, Added};
 ghost use Rattle.chain.specs.Clash.{boundOf, none, boundAt, listed};

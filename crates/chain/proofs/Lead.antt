@@ -7,10 +7,9 @@ use native.Mathlib.Omega.{arith}
 use lib.IntN.{ℤ}
 use Rattle.meaning.specs.Plan.{Plan}
 use Rattle.meaning.specs.Bounds.{Bound, Leads, stop, step, Chain}
-use Rattle.meaning.specs.Distances.{Closed}
-use Rattle.meaning.proofs.Faultless.{WithoutFault}
+use Rattle.meaning.specs.Distances.{Closed, Clashes}
+use Rattle.meaning.specs.Faultless.{WithoutFault}
 use Rattle.meaning.proofs.Bounds as B
-use Rattle.meaning.proofs.Stands.{Clashes}
 use Rattle.meaning.proofs.Walks.{Walk, Walks, step-tight}
 use Rattle.meaning.proofs.Chains.{loop-chain}
 use Rattle.distances.specs.Matrix.{at, Net}

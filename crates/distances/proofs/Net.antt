@@ -9,9 +9,9 @@ use lib.IntN.{ℤ, pos, negℤ, _+ℤ_, _-ℤ_}
 use lib.Signed.{leZ, _≤ℤ_}
 use Rattle.ticks.proofs.Ticks.{ticks, neg, sum}
 use Rattle.meaning.specs.Plan.{Within, MOST-END, MOST-HORIZON}
-use Rattle.meaning.specs.Distances.{Closed, Keeps, Adds, horizonOnly}
+use Rattle.meaning.specs.Distances.{added, Closed, Keeps, Adds, horizonOnly}
 use Rattle.meaning.proofs.Distances.{adds-closed, adds-below, adds-keeps, adds-old, adds-new, start-closed, start-below, start-means, means-start, same-set, Horizon}
-use Rattle.distances.specs.Matrix.{STRIDE, at, added, meeting, Net, Changed, Started, Adding, Added, Narrowing, Cut, Narrowed}
+use Rattle.distances.specs.Matrix.{STRIDE, at, meeting, Net, Changed, Started, Adding, Added, Narrowing, Cut, Narrowed}
 
 -- ---- a matrix is as its entries are
 same-closed : {n : ℕ} {D E : ℕ → ℕ → ℤ} → Closed n D → ((i j : ℕ) → i < n → j < n → E i j ≡ D i j) → Closed n E

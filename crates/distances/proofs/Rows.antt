@@ -13,8 +13,8 @@ use lib.Signed.{_≤ℤ_, ltZ}
 use borrow.Author.Count.{below-more}
 use Rattle.ticks.specs.Min.{minZ}
 use Rattle.ticks.proofs.Ticks.{ticks, ltZ-false}
-use Rattle.meaning.specs.Distances.{Closed}
-use Rattle.distances.specs.Matrix.{STRIDE, ENTRIES, at, added, Changed}
+use Rattle.meaning.specs.Distances.{added, Closed}
+use Rattle.distances.specs.Matrix.{STRIDE, ENTRIES, at, Changed, Beside}
 use Rattle.distances.specs.Sweep.{Swept}
 use Rattle.distances.specs.Rows.{lowered}
 use Rattle.distances.proofs.Sweep.{swept-as}
@@ -105,3 +105,25 @@ one-result {n} {d} {d₁} {d₂} size few r s = ext-getD (pos 0) d₁ d₂ (r .l
 
     same : (k : ℕ) → getD d₁ k (pos 0) ≡ getD d₂ k (pos 0)
     same k = rw (apart k) at (here (k / STRIDE) (k % STRIDE) (omega arith) (decLt (k / STRIDE) n) (decLt (k % STRIDE) n))
+
+-- ---- what stands beside the entries in use
+
+pub beside-same : {n : ℕ} {d : List ℤ} → Beside n d d
+beside-same = record { long = refl; beside = λ i j p q r. refl; rest = λ k l. refl }
+
+pub beside-then : {n : ℕ} {d d₁ d₂ : List ℤ} → Beside n d d₁ → Beside n d₁ d₂ → Beside n d d₂
+beside-then x y = record {
+  long = y .long ∙ x .long;
+  beside = λ i j p q r. y .beside i j p q r ∙ x .beside i j p q r;
+  rest = λ k l. y .rest k l ∙ x .rest k l;
+}
+
+pub changed-beside : {n : ℕ} {d d′ : List ℤ} {f : ℕ → ℕ → ℤ} → Changed n n d d′ f → Beside n d d′
+changed-beside r = record { long = r .long; beside = r .beside; rest = r .rest }
+
+beside-changed : {n : ℕ} {d d′ : List ℤ} (f : ℕ → ℕ → ℤ) → Beside n d d′ → ((i j : ℕ) → i < n → j < n → at d′ i j ≡ f i j) → Changed n n d d′ f
+beside-changed f x e = record { long = x .long; done = e; beside = x .beside; rest = x .rest }
+
+-- two results that are the same where they are in use are the same
+pub one-matrix : {n : ℕ} {d d₁ d₂ : List ℤ} → length d ≡ ENTRIES → n ≤ STRIDE → Beside n d d₁ → Beside n d d₂ → ((i j : ℕ) → i < n → j < n → at d₁ i j ≡ at d₂ i j) → d₁ ≡ d₂
+one-matrix {d₂ = d₂} size few x y e = one-result size few (beside-changed (at d₂) x e) (beside-changed (at d₂) y (λ i j p q. refl))

@@ -6,9 +6,8 @@ use mathlib.Core.List.{List}
 use lib.ListN.{length, getD}
 use lib.IntN.{ℤ, pos, negℤ, _+ℤ_}
 use lib.Signed.{leZ, _≤ℤ_}
-use Rattle.ticks.specs.Min.{minZ}
 use Rattle.meaning.specs.Plan.{Within, MOST-EVENTS, MOST-HORIZON, MOST-END}
-use Rattle.meaning.specs.Distances.{Closed, Below, horizonOnly}
+use Rattle.meaning.specs.Distances.{Distances, Closed, Below, added, horizonOnly}
 
 -- entries from one row to the next; in code the constant of this name
 abbrev pub STRIDE : ℕ
@@ -31,11 +30,17 @@ pub record Net (n H : ℕ) (d : List ℤ) : Type 0 where
   pub below : Below n H (at d)
 
 -- d′ is d but for the first n columns of the first m rows, which hold f i j
-pub record Changed (m n : ℕ) (d d′ : List ℤ) (f : ℕ → ℕ → ℤ) : Type 0 where
+pub record Changed (m n : ℕ) (d d′ : List ℤ) (f : Distances) : Type 0 where
   pub long : length d′ ≡ length d
   pub done : (i j : ℕ) → i < m → j < n → at d′ i j ≡ f i j
   pub beside : (i j : ℕ) → i < m → n ≤ j → j < STRIDE → at d′ i j ≡ at d i j
   pub rest : (k : ℕ) → m * STRIDE ≤ k → getD d′ k (pos 0) ≡ getD d k (pos 0)
+
+-- d′ is d but for the first n columns of the first n rows, of which nothing is said
+pub record Beside (n : ℕ) (d d′ : List ℤ) : Type 0 where
+  pub long : length d′ ≡ length d
+  pub beside : (i j : ℕ) → i < n → n ≤ j → j < STRIDE → at d′ i j ≡ at d i j
+  pub rest : (k : ℕ) → n * STRIDE ≤ k → getD d′ k (pos 0) ≡ getD d k (pos 0)
 
 -- ---- one entry
 pub record Place (i j : ℕ) (d : List ℤ) : Type 0 where
@@ -54,9 +59,6 @@ pub record Started (h : ℕ) (d′ : List ℤ) : Type 0 where
 
 -- ---- one more bound: t(b) − t(a) ≤ w
 
-abbrev pub added : (ℕ → ℕ → ℤ) → ℕ → ℕ → ℤ → ℕ → ℕ → ℤ
-added D a b w i j = minZ (D i j) ((D i a +ℤ w) +ℤ D b j)
-
 pub record Adding (n a b : ℕ) (w : ℤ) (d : List ℤ) : Type 0 where
   pub horizon : ℕ
   pub net : Net n horizon d
@@ -74,7 +76,7 @@ pub record Added (n a b : ℕ) (w : ℤ) (d d′ : List ℤ) (r : Bool) : Type 0
 -- ---- a question of the ladder: lo ≤ t(b) − t(a) ≤ hi
 
 -- the run is not empty and meets what D leaves between a and b, −D b a to D a b
-abbrev pub meeting : (ℕ → ℕ → ℤ) → ℕ → ℕ → ℤ → ℤ → Bool
+abbrev pub meeting : Distances → ℕ → ℕ → ℤ → ℤ → Bool
 meeting D a b lo hi = leZ lo hi && (leZ lo (D a b) && leZ (negℤ (D b a)) hi)
 
 pub record Narrowing (n a b : ℕ) (lo hi : ℤ) (d : List ℤ) : Type 0 where

@@ -3,9 +3,9 @@ ghost use mathlib.Core.Path.{_≡_};
 ghost use Prim.Native.Nat.{_*_, _≤_, _<_};
 ghost use lib.ListN.{length, getD};
 ghost use lib.IntN.{pos, _+ℤ_};
-ghost use Rattle.meaning.specs.Distances.{horizonOnly, earliest};
+ghost use Rattle.meaning.specs.Distances.{added, horizonOnly, earliest};
 ghost use Rattle.meaning.specs.Plan.{MOST-HORIZON};
-ghost use Rattle.distances.specs.Matrix.{STRIDE, at, added, meeting, Place, Starting, Started, Adding, Changed, Added, Narrowing, Narrowed, Timing};
+ghost use Rattle.distances.specs.Matrix.{STRIDE, at, meeting, Place, Starting, Started, Adding, Changed, Added, Narrowing, Narrowed, Timing};
 ghost use Rattle.distances.specs.Sweep.{Swept};
 ghost use Rattle.distances.specs.Rows.{Lowering, Copying, Inserting, lowered};
 

@@ -11,7 +11,7 @@ use mir.Syntax.{w32}
 use mir.Val.{SFits}
 use Rattle.ticks.proofs.Ticks.{ticks, sum}
 use Rattle.meaning.specs.Plan.{Within, MOST-END}
-use Rattle.meaning.proofs.Run.{Run}
+use Rattle.meaning.specs.Run.{Run}
 use Rattle.plan.specs.declared.Record.{Record}
 use Rattle.distances.specs.Matrix.{Narrowing, Narrowed}
 use Rattle.ladder.specs.Climbing.{Reach, Asking, Asked, levelsAt}

@@ -13,10 +13,11 @@ use Rattle.meaning.specs.Plan as M
 use Rattle.meaning.specs.Plan.{recordAt, wishes, TOP-LEVEL, MOST-RECORDS}
 use Rattle.meaning.specs.Outcome.{over}
 use Rattle.meaning.specs.Distances.{earliest}
-use Rattle.meaning.proofs.Faultless.{GoodRecord, WithoutFault}
+use Rattle.meaning.specs.Faultless.{GoodRecord, WithoutFault}
+use Rattle.meaning.specs.Climb.{number}
 use Rattle.meaning.proofs.Stands.{stands-same, stands-earliest}
 use Rattle.meaning.proofs.Solve.{all-left}
-use Rattle.meaning.proofs.Wishes.{number, next-wish, next-rule, wishes-few, wish-below, all-wishes, climb-start}
+use Rattle.meaning.proofs.Wishes.{next-wish, next-rule, wishes-few, wish-below, all-wishes, climb-start}
 use Rattle.plan.specs.declared.Plan.{Plan}
 use Rattle.plan.specs.Held.{rowOf, blank, Holds}
 use Rattle.plan.proofs.Use.{rowAt, held-row}

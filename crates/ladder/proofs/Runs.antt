@@ -7,7 +7,7 @@ use native.Mathlib.Omega.{arith}
 use lib.ListN.{length, getD}
 use lib.Seq.{slice, length-slice}
 use borrow.Author.Count.{below-more}
-use Rattle.meaning.proofs.Run.{Run}
+use Rattle.meaning.specs.Run.{Run}
 use Rattle.meaning.proofs.Peaks.{past-end}
 use Rattle.text.proofs.Slices.{slice-at}
 use Rattle.plan.specs.declared.Record.{Record}

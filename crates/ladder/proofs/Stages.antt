@@ -13,12 +13,13 @@ use lib.IntN.{ℤ, pos, _+ℤ_, _-ℤ_}
 use Rattle.meaning.specs.Plan as M
 use Rattle.meaning.specs.Plan.{recordAt, Times, Within, TOP-LEVEL}
 use Rattle.meaning.specs.Outcome.{over}
-use Rattle.meaning.specs.Distances.{earliest}
-use Rattle.meaning.proofs.Run.{Run}
-use Rattle.meaning.proofs.Faultless.{GoodRecord}
-use Rattle.meaning.proofs.Stands.{Stands, stands-same, stands-earliest}
+use Rattle.meaning.specs.Distances.{earliest, Stands}
+use Rattle.meaning.specs.Run.{Run}
+use Rattle.meaning.specs.Faultless.{GoodRecord}
+use Rattle.meaning.specs.Climb.{number}
+use Rattle.meaning.proofs.Stands.{stands-same, stands-earliest}
 use Rattle.meaning.proofs.Solve.{Between}
-use Rattle.meaning.proofs.Wishes.{number, wish-number, wish-below, next-wish, next-rule, climb-rule, climb-failed, climb-yes, climb-within, climb-no, climb-next}
+use Rattle.meaning.proofs.Wishes.{wish-number, wish-below, next-wish, next-rule, climb-rule, climb-failed, climb-yes, climb-within, climb-no, climb-next}
 use Rattle.plan.specs.declared.Record.{Record}
 use Rattle.plan.specs.declared.Plan.{Plan}
 use Rattle.plan.specs.Held.{levelsIn, rowOf, blank}

@@ -6,8 +6,8 @@ use lib.IntN.{ℤ}
 use Rattle.meaning.specs.Plan as M
 use Rattle.meaning.specs.Plan.{Timetable, wishes, TOP-LEVEL}
 use Rattle.meaning.specs.Outcome.{over}
-use Rattle.meaning.proofs.Stands.{Stands}
-use Rattle.meaning.proofs.Wishes.{ClimbedTo, Left}
+use Rattle.meaning.specs.Distances.{Stands}
+use Rattle.meaning.specs.Climb.{ClimbedTo, Left}
 use Rattle.plan.specs.declared.Plan.{Plan}
 use Rattle.distances.specs.Matrix.{at, Net}
 use Rattle.ladder.specs.Memory.{InMemory}

@@ -10,10 +10,10 @@ use lib.Signed.{_≤ℤ_}
 use Rattle.meaning.specs.Plan as M
 use Rattle.meaning.specs.Plan.{Within, MOST-END, MOST-LEVELS, MOST-RECORDS, TOP-LEVEL, wishes}
 use Rattle.meaning.specs.Outcome.{over}
-use Rattle.meaning.proofs.Faultless.{WithoutFault}
-use Rattle.meaning.proofs.Stands.{Stands}
-use Rattle.meaning.proofs.Wishes.{ClimbedTo, Left}
-use Rattle.meaning.proofs.Run.{Run}
+use Rattle.meaning.specs.Faultless.{WithoutFault}
+use Rattle.meaning.specs.Run.{Run}
+use Rattle.meaning.specs.Distances.{Stands}
+use Rattle.meaning.specs.Climb.{ClimbedTo, Left}
 use Rattle.plan.specs.declared.Record.{Record}
 use Rattle.plan.specs.declared.Plan.{Plan}
 use Rattle.plan.specs.Held.{Holds}

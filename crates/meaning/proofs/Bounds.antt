@@ -14,7 +14,7 @@ use Rattle.ticks.proofs.Ticks.{ticks}
 use Rattle.meaning.specs.Plan as P
 use Rattle.meaning.specs.Plan.{Record, nothing, Plan, recordAt, Times, Within, distance, Timetable}
 use Rattle.meaning.specs.Bounds.{Bound, upper, lower, horizonUpper, horizonLower, recordBounds, horizonBounds, bounds}
-use Rattle.meaning.proofs.Faultless.{WithoutFault}
+use Rattle.meaning.specs.Faultless.{WithoutFault}
 use Rattle.meaning.proofs.Distances.{Horizon}
 
 -- ---- which bounds they are

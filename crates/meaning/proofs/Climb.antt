@@ -13,25 +13,9 @@ use lib.Seq.{getD-set-same, getD-set-other, ext-getD}
 use borrow.Author.Tests.{leb-true, le-leb, lt-leb}
 use Rattle.meaning.specs.Plan.{TOP-LEVEL}
 use Rattle.meaning.specs.Ladder.{questions, lv, reply, Best}
-use Rattle.meaning.proofs.Questions.{ask, asked, asked-more, asked-next, asked-all}
+use Rattle.meaning.specs.Climb.{asked, Above, Reached}
+use Rattle.meaning.proofs.Questions.{ask, asked-more, asked-next, asked-all}
 use Rattle.meaning.proofs.Best.{all-best, shorter, kept-yes, kept-no}
-
-module _ {A : Type 0} (S : A → Type 0) (lev : A → List ℕ) (w : ℕ) where
-  -- a thing with at least the grades g
-  pub record Above (g : List ℕ) (a : A) : Type 0 where
-    pub member : S a
-    pub atLeast : (j : ℕ) → j < w → lv g j ≤ lv (lev a) j
-
-  -- y grades are done, and k wishes of the next
-  pub record Reached (y k : ℕ) (g : List ℕ) : Type 0 where
-    pub count : length g ≡ w
-    -- those left are the best on what has been asked, and there is one
-    pub best : (a : A) → Above g a ↔ Best S lev (asked w y k) a
-    pub some : A
-    pub left : Above g some
-    -- the grade reached is the level, as far as it has been asked for
-    pub done : (a : A) → Above g a → (j : ℕ) → j < k → min (lv (lev a) j) (suc y) ≡ lv g j
-    pub waiting : (a : A) → Above g a → (j : ℕ) → k ≤ j → j < w → min (lv (lev a) j) y ≡ lv g j
 
 module _ {A : Type 0} {S : A → Type 0} {lev : A → List ℕ} {w : ℕ} where
   -- no question yet: all are left

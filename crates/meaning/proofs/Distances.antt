@@ -10,10 +10,7 @@ use lib.Signed.{_≤ℤ_, _<ℤ_}
 use borrow.Author.Tests.{eq-eqb, ne-eqb}
 use Rattle.ticks.specs.Min.{minZ}
 use Rattle.ticks.proofs.Ticks.{ticks}
-use Rattle.meaning.specs.Distances.{Closed, Keeps, Adds, Below, horizonOnly, latest, earliest}
-
-abbrev pub Distances : Type 0
-Distances = ℕ → ℕ → ℤ
+use Rattle.meaning.specs.Distances.{Distances, Closed, Keeps, Adds, Below, horizonOnly, latest, earliest}
 
 -- where no entry is above H, none is below −H
 pub above : {n H : ℕ} {D : Distances} → Closed n D → Below n H D → {i j : ℕ} → i < n → j < n → negℤ (pos H) ≤ℤ D i j

@@ -15,7 +15,7 @@ use Rattle.meaning.specs.Plan.{Record, rule, wish, nothing, Plan, Times,
 use Rattle.meaning.specs.Ladder.{Question, questions, replies, better}
 use Rattle.meaning.specs.Outcome.{BestTimes, at, Solved}
 use Rattle.meaning.specs.Reading.{same}
-use Rattle.meaning.proofs.Faultless.{GoodRecord, WithoutFault}
+use Rattle.meaning.specs.Faultless.{GoodRecord, WithoutFault}
 use Rattle.meaning.proofs.Times.{timesFrom, times-at}
 
 -- the second is computed only where the first passes

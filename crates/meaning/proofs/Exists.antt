@@ -9,11 +9,10 @@ use lib.IntN.{pos, _+ℤ_}
 use Rattle.ticks.proofs.Ticks as K
 use Rattle.meaning.specs.Plan.{Plan, recordAt, Times, Timetable}
 use Rattle.meaning.specs.Bounds.{Bound, upper, lower, Chain}
-use Rattle.meaning.specs.Distances.{horizonOnly, earliest}
-use Rattle.meaning.proofs.Faultless.{WithoutFault}
-use Rattle.meaning.proofs.Distances.{Distances}
+use Rattle.meaning.specs.Distances.{horizonOnly, earliest, Distances, Stands, addedBound, Meets, Clashes}
+use Rattle.meaning.specs.Faultless.{WithoutFault}
 use Rattle.meaning.proofs.Bounds.{Given, bound-placed, given-upper, given-lower, given-horizon-upper, given-horizon-lower, UpTo}
-use Rattle.meaning.proofs.Stands.{Stands, With, AddsBound, added, added-adds, Meets, Clashes, stands-adds, stands-earliest, stands-horizon, stands-next, stands-all}
+use Rattle.meaning.proofs.Stands.{With, AddsBound, added-adds, stands-adds, stands-earliest, stands-horizon, stands-next, stands-all}
 use Rattle.meaning.proofs.Walks.{Walks, walks-add, walks-horizon}
 use Rattle.meaning.proofs.Chains.{some-chain, clash-loop}
 
@@ -57,7 +56,7 @@ module _ {p : Plan} (w : WithoutFault p) where
   one-bound {X} {β} g (inl (D, h)) = go (K.total (pos 0) (D (β .end) (β .start) +ℤ β .weight))
     where
       go : Meets β D ⊎ Clashes β D → Or (With β X)
-      go (inl m) = inl (added β D, held-adds h g (added-adds (p .events) β D) m)
+      go (inl m) = inl (addedBound β D, held-adds h g (added-adds (p .events) β D) m)
       go (inr m) = inr (held-clash h g m)
 
   records-held : (k : ℕ) → k ≤ length (p .records) → Or (UpTo p k)

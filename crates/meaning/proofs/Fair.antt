@@ -15,7 +15,7 @@ use Rattle.meaning.specs.Outcome.{BestTimes}
 use Rattle.meaning.proofs.Replies.{Against, before, at}
 use Rattle.meaning.proofs.Questions.{ask, Place, place, Low}
 use Rattle.meaning.proofs.Best.{same-replies}
-use Rattle.meaning.proofs.Faultless.{WithoutFault}
+use Rattle.meaning.specs.Faultless.{WithoutFault}
 use Rattle.meaning.proofs.Levels.{levels-count, levels-mild}
 
 -- two levels that pass the same grades are equal

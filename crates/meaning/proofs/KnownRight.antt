@@ -10,7 +10,7 @@ use Rattle.meaning.specs.Peak.{peaked}
 use Rattle.meaning.specs.Reading.{Reading, plan, refused, read, split, digitsOf, numberOf, lineForm, lineStep}
 use Rattle.meaning.specs.Outcome.{Outcome, solved, none, refusal, number, place, Right, Areas, longEnough, written, Promise}
 use Rattle.meaning.specs.Known.{Known, bytes, table}
-use Rattle.meaning.proofs.Faultless.{WithoutFault}
+use Rattle.meaning.specs.Faultless.{WithoutFault}
 use Rattle.meaning.proofs.ReadGood.{read-faultless}
 use Rattle.meaning.proofs.EveryRow.{solvedTest, solved-right}
 use Rattle.meaning.proofs.ChainTest.{chainTest, chain-right}

@@ -8,7 +8,7 @@ use lib.IntN.{_-ℤ_, natAbs}
 use lib.Signed.{nonNeg}
 use Rattle.meaning.specs.Plan.{Record, rule, wish, nothing, Plan, Times, levelsOf, levels, wishCount, wishes, TOP-LEVEL}
 use Rattle.meaning.specs.Ladder.{lv}
-use Rattle.meaning.proofs.Faultless.{Levelled, WithoutFault}
+use Rattle.meaning.specs.Faultless.{Levelled, WithoutFault}
 
 -- as many levels as wishes
 pub levels-count : (p : Plan) (t : Times) → length (levels p t) ≡ wishes p

@@ -2,7 +2,6 @@
 -- closed distances
 pub mod Distances
 -- levels and the ladder
-pub mod Run
 pub mod Peaks
 pub mod Replies
 pub mod Questions
@@ -14,7 +13,6 @@ pub mod Wishes
 -- rows of times
 pub mod Times
 -- a text's reading
-pub mod Faultless
 pub mod Tests
 pub mod ReadGood
 pub mod Refusals

@@ -16,7 +16,7 @@ use Rattle.ticks.proofs.Ticks.{ticks, sum, neg}
 use Rattle.meaning.specs.Plan.{levelAt, Within, TOP-LEVEL}
 use Rattle.meaning.specs.Ladder.{lv}
 use Rattle.meaning.specs.Peak.{SinglePeaked, peakedFrom, peaked}
-use Rattle.meaning.proofs.Run.{Run}
+use Rattle.meaning.specs.Run.{Run}
 
 -- ---- the run of a grade is where a wish has that grade
 

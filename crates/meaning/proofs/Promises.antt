@@ -13,7 +13,7 @@ use Rattle.meaning.specs.Plan.{Plan}
 use Rattle.meaning.specs.Bounds.{Chain}
 use Rattle.meaning.specs.Reading.{Reading, plan, refused, read}
 use Rattle.meaning.specs.Outcome.{Outcome, solved, none, refusal, number, place, at, Solved, Right, Areas, longEnough, heard, written, Promise}
-use Rattle.meaning.proofs.Faultless.{WithoutFault}
+use Rattle.meaning.specs.Faultless.{WithoutFault}
 use Rattle.meaning.proofs.ReadGood.{read-faultless}
 use Rattle.meaning.proofs.Fair.{best-levels}
 use Rattle.meaning.proofs.Chains.{chain-excludes}

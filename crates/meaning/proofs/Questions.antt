@@ -7,6 +7,7 @@ use native.Mathlib.Decide.{ℕ-discrete}
 use native.Mathlib.Omega.{arith}
 use Rattle.meaning.specs.Plan.{TOP-LEVEL}
 use Rattle.meaning.specs.Ladder.{Question, row, rows, questions}
+use Rattle.meaning.specs.Climb.{asked}
 use Rattle.meaning.proofs.Replies.{All, all-append}
 
 abbrev pub ask : ℕ → ℕ → Question
@@ -30,9 +31,7 @@ rows-snoc′ w y (suc m) =
 pub rows-snoc : (w m : ℕ) → rows w 1 (suc m) ≡ rows w 1 m ++ row (suc m) 0 w
 rows-snoc w m = rows-snoc′ w 1 m ∙ ap (λ n. rows w 1 m ++ row n 0 w) (omega arith)
 
--- what has been asked when y grades are done, and k wishes of the next
-abbrev pub asked : ℕ → ℕ → ℕ → List Question
-asked w y k = rows w 1 y ++ row (suc y) 0 k
+-- ---- what has been asked when y grades are done, and k wishes of the next
 
 pub asked-more : (w y k : ℕ) → asked w y (suc k) ≡ asked w y k ++ ask (suc y) k ∷ []
 asked-more w y k = ap (λ l. rows w 1 y ++ l) (row-snoc (suc y) k) ∙ sym (append-assoc (rows w 1 y) (row (suc y) 0 k) (ask (suc y) k ∷ []))

@@ -15,7 +15,7 @@ use Rattle.ticks.proofs.Ticks.{ticks, sum}
 use Rattle.meaning.specs.Plan.{Record, rule, wish, Plan, nothing, MOST-RECORDS, MOST-LEVELS, MOST-LEVELS-TOGETHER, MOST-HORIZON, MOST-EVENTS, MOST-END, MOST-BYTES}
 use Rattle.meaning.specs.Peak.{peaked}
 use Rattle.meaning.specs.Reading.{Form, eventsLine, ruleLine, wishLine, wrong, eventsForm, ruleForm, wishForm, formOf, lineForm, same, numbers, split, EVENTS, RULE, WISH, TAB, LINE-FEED, between, allLevels, inRange, sameEvent, lastOf, levelsTogether, withRecord, Step, taken, fault, unless, firstLine, laterLine, lineStep, plan, refused, empty, afterStep, readPieces, read, item}
-use Rattle.meaning.proofs.Faultless.{GoodRecord, WithoutFault}
+use Rattle.meaning.specs.Faultless.{GoodRecord, WithoutFault}
 use Rattle.meaning.proofs.Peaks.{peaked-sound}
 use Rattle.meaning.proofs.Tests.{both, event-below, count-from, count-to, levels-mild, apart, in-range}
 

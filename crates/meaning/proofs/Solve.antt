@@ -12,16 +12,17 @@ use Rattle.ticks.proofs.Ticks as K
 use Rattle.ticks.proofs.Ticks.{ticks}
 use Rattle.meaning.specs.Plan.{Record, rule, wish, Plan, recordAt, Times, Timetable, Within, wishes, TOP-LEVEL}
 use Rattle.meaning.specs.Bounds.{Bound, upper, lower}
-use Rattle.meaning.specs.Distances.{Keeps, earliest}
+use Rattle.meaning.specs.Distances.{Keeps, earliest, Distances, Stands, addedBound}
 use Rattle.meaning.specs.Outcome.{at, Solved}
-use Rattle.meaning.proofs.Run.{Run}
+use Rattle.meaning.specs.Run.{Run}
 use Rattle.meaning.proofs.Times.{timesFrom, times-count, times-at}
-use Rattle.meaning.proofs.Faultless.{WithoutFault, GoodRecord}
-use Rattle.meaning.proofs.Distances.{Distances, earliest-holds, earliest-least}
+use Rattle.meaning.specs.Faultless.{WithoutFault, GoodRecord}
+use Rattle.meaning.specs.Climb.{Left, number, ClimbedTo}
+use Rattle.meaning.proofs.Distances.{earliest-holds, earliest-least}
 use Rattle.meaning.proofs.Peaks.{InRun, runFirst, runPast, run-is}
-use Rattle.meaning.proofs.Wishes.{Left, number, ClimbedTo, climb-start, climb-rule, climb-yes, climb-within, climb-no, climb-next, ladder-solved}
+use Rattle.meaning.proofs.Wishes.{climb-start, climb-rule, climb-yes, climb-within, climb-no, climb-next, ladder-solved}
 use Rattle.meaning.proofs.Bounds.{Placed, kept-upper, kept-lower, held-record}
-use Rattle.meaning.proofs.Stands.{Stands, stands-same, With, added, added-adds, stands-adds, stands-none, stands-earliest}
+use Rattle.meaning.proofs.Stands.{stands-same, With, added-adds, stands-adds, stands-none, stands-earliest}
 use Rattle.meaning.proofs.Chains.{chain-excludes}
 use Rattle.meaning.proofs.Exists.{plan-held}
 
@@ -45,7 +46,7 @@ Found n X = ((D : Distances) × Stands n D X) ⊎ ((t : Times) → X t → ⊥)
 
 one-bound : {n : ℕ} {X : Times → Type 0} {β : Bound} → Placed n β → Found n X → Found n (With β X)
 one-bound l (inr f) = inr (λ t y. f t (y .0))
-one-bound {n} {X} {β} l (inl (D, s)) = ⊎-map (λ m. (added β D, stands-adds s l (added-adds n β D) m)) (λ m. stands-none s l m) (K.total (pos 0) (D (β .end) (β .start) +ℤ β .weight))
+one-bound {n} {X} {β} l (inl (D, s)) = ⊎-map (λ m. (addedBound β D, stands-adds s l (added-adds n β D) m)) (λ m. stands-none s l m) (K.total (pos 0) (D (β .end) (β .start) +ℤ β .weight))
 
 two-bounds : {n a b : ℕ} → a < n → b < n → (a ≡ b → ⊥) → (lo hi : ℤ) (X : Times → Type 0) → Found n X → Found n (Between a b lo hi X)
 two-bounds {n} {a} {b} ha hb f lo hi X x = ⊎-map

@@ -11,15 +11,9 @@ use Rattle.ticks.specs.Min.{minZ}
 use Rattle.ticks.proofs.Ticks.{ticks}
 use Rattle.meaning.specs.Plan.{Plan, recordAt, Times, Timetable}
 use Rattle.meaning.specs.Bounds.{Bound, upper, lower}
-use Rattle.meaning.specs.Distances.{Closed, Keeps, Adds, horizonOnly, earliest}
-use Rattle.meaning.proofs.Distances.{Distances, adds-closed, adds-keeps, adds-old, adds-new, start-closed, start-means, means-start, earliest-holds}
+use Rattle.meaning.specs.Distances.{Distances, Closed, Keeps, Stands, Adds, addedBound, Meets, Clashes, horizonOnly, earliest}
+use Rattle.meaning.proofs.Distances.{adds-closed, adds-keeps, adds-old, adds-new, start-closed, start-means, means-start, earliest-holds}
 use Rattle.meaning.proofs.Bounds.{Holds, Placed, UpTo, up-to-none, up-to-next, up-to-less, up-to-upper, up-to-lower, up-to-all, timetable-up-to}
-
--- the rows of times that D stands for are those of X
-pub record Stands (n : ℕ) (D : Distances) (X : Times → Type 0) : Type 0 where
-  pub closed : Closed n D
-  pub into : {t : Times} → X t → Keeps n D t
-  pub from : {t : Times} → Keeps n D t → X t
 
 pub stands-same : {n : ℕ} {D : Distances} {X Y : Times → Type 0} → Stands n D X → ((t : Times) → X t ↔ Y t) → Stands n D Y
 stands-same s f = record { closed = s .closed; into = λ {t} y. s .into (f t .1 y); from = λ {t} k. f t .0 (s .from k) }
@@ -32,20 +26,8 @@ With β X t = X t × Holds t β
 abbrev pub AddsBound : ℕ → Bound → Distances → Distances → Type 0
 AddsBound n β D D′ = Adds n (β .start) (β .end) (β .weight) D D′
 
--- as a function
-abbrev pub added : Bound → Distances → Distances
-added β D i j = minZ (D i j) ((D i (β .start) +ℤ β .weight) +ℤ D (β .end) j)
-
-pub added-adds : (n : ℕ) (β : Bound) (D : Distances) → AddsBound n β D (added β D)
+pub added-adds : (n : ℕ) (β : Bound) (D : Distances) → AddsBound n β D (addedBound β D)
 added-adds n β D = record { at = λ p q. refl }
-
--- β can be added to D
-abbrev pub Meets : Bound → Distances → Type 0
-Meets β D = pos 0 ≤ℤ (D (β .end) (β .start) +ℤ β .weight)
-
--- it cannot
-abbrev pub Clashes : Bound → Distances → Type 0
-Clashes β D = (D (β .end) (β .start) +ℤ β .weight) <ℤ pos 0
 
 module _ {n : ℕ} {β : Bound} {D : Distances} {X : Times → Type 0} (s : Stands n D X) (l : Placed n β) where
   pub stands-adds : {D′ : Distances} → AddsBound n β D D′ → Meets β D → Stands n D′ (With β X)

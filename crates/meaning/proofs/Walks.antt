@@ -12,10 +12,10 @@ use lib.Signed.{_≤ℤ_, _<ℤ_}
 use Rattle.ticks.proofs.Ticks as K
 use Rattle.ticks.proofs.Ticks.{ticks, sum}
 use Rattle.meaning.specs.Bounds.{Bound, horizonUpper, horizonLower, Leads, stop, step, total, distinct, ends}
-use Rattle.meaning.specs.Distances.{Closed, horizonOnly}
-use Rattle.meaning.proofs.Distances.{Distances, start-high, start-origin, start-self, start-else}
+use Rattle.meaning.specs.Distances.{Closed, horizonOnly, Distances, Meets}
+use Rattle.meaning.proofs.Distances.{start-high, start-origin, start-self, start-else}
 use Rattle.meaning.proofs.Distinct.{Disjoint, distinct-join, distinct-cons}
-use Rattle.meaning.proofs.Stands.{AddsBound, Meets}
+use Rattle.meaning.proofs.Stands.{AddsBound}
 
 -- ---- bounds that lead from event to event
 

@@ -14,15 +14,12 @@ use Rattle.meaning.specs.Plan.{Record, rule, wish, nothing, Plan, record
 use Rattle.meaning.specs.Ladder.{lv}
 use Rattle.meaning.specs.Peak.{SinglePeaked}
 use Rattle.meaning.specs.Outcome.{BestTimes, at, Solved}
-use Rattle.meaning.proofs.Run.{Run}
-use Rattle.meaning.proofs.Faultless.{WithoutFault}
+use Rattle.meaning.specs.Run.{Run}
+use Rattle.meaning.specs.Faultless.{WithoutFault}
+use Rattle.meaning.specs.Climb.{wishesBefore, Left, Climbed, number, ClimbedTo}
 use Rattle.meaning.proofs.Levels.{levels-count, levels-mild}
-use Rattle.meaning.proofs.Climb.{Above, Reached, raised, fails-again, reached-start, reached-yes, reached-no, reached-next, reached-best, reached-levels}
+use Rattle.meaning.proofs.Climb.{raised, fails-again, reached-start, reached-yes, reached-no, reached-next, reached-best, reached-levels}
 use Rattle.meaning.proofs.Peaks.{InRun, level-bounds}
-
--- the number of wishes before record r: the number that record r has among the wishes, where it is one
-abbrev pub wishesBefore : List Record → ℕ → ℕ
-wishesBefore rs r = wishCount (take r rs)
 
 -- ---- record r is a wish
 
@@ -68,75 +65,60 @@ pub all-wishes : (rs : List Record) → wishesBefore rs (length rs) ≡ wishCoun
 all-wishes rs = ap wishCount (take-length rs)
 
 module _ (p : Plan) where
-  -- the timetables left when the grades g are reached
-  abbrev pub Left : List ℕ → Times → Type 0
-  Left g t = Above (Timetable p) (levels p) (wishes p) g t
-
-  -- the ladder climbed: y grades are done, and k wishes of the next
-  abbrev pub Climbed : ℕ → ℕ → List ℕ → Type 0
-  Climbed y k g = Reached (Timetable p) (levels p) (wishes p) y k g
-
-  -- the number of record r among the wishes
-  abbrev pub number : ℕ → ℕ
-  number r = wishesBefore (p .records) r
-
   -- the question "grade y or more?" of the wish that is record r, as two bounds
   pub question-bounds : {y r a b first past : ℕ} {lo : ℤ} {ls : List ℕ} → r < length (p .records) → recordAt p r ≡ wish a b lo ls → Run y ls first past → SinglePeaked ls →
-      1 ≤ y → y ≤ TOP-LEVEL → (t : Times) → (y ≤ lv (levels p t) (number r)) ↔ InRun lo first past (t b -ℤ t a)
+      1 ≤ y → y ≤ TOP-LEVEL → (t : Times) → (y ≤ lv (levels p t) (number p r)) ↔ InRun lo first past (t b -ℤ t a)
   question-bounds {y} {r} {a} {b} {first} {past} {lo} {ls} h e run s one top t =
       subst⁻¹ (λ (n : ℕ). (y ≤ n) ↔ InRun lo first past (t b -ℤ t a)) (wish-level t (p .records) r h e)
       (level-bounds run s one top (t b -ℤ t a) lo)
 
   -- ---- the climb, record by record: y grades are done, and r records of the next
 
-  abbrev pub ClimbedTo : ℕ → ℕ → List ℕ → Type 0
-  ClimbedTo y r g = Climbed y (number r) g
-
-  pub climb-start : (t : Times) → Timetable p t → ClimbedTo 0 0 (replicate (wishes p) 0)
+  pub climb-start : (t : Times) → Timetable p t → ClimbedTo p 0 0 (replicate (wishes p) 0)
   climb-start t h = reached-start t h
 
   -- a rule has no question
-  pub climb-rule : {y r a b : ℕ} {lo hi : ℤ} {g : List ℕ} → ClimbedTo y r g → r < length (p .records) → recordAt p r ≡ rule a b lo hi → ClimbedTo y (suc r) g
-  climb-rule {y} {r} {g = g} c h e = subst⁻¹ (λ (k : ℕ). Climbed y k g) (next-rule (p .records) r h e) c
+  pub climb-rule : {y r a b : ℕ} {lo hi : ℤ} {g : List ℕ} → ClimbedTo p y r g → r < length (p .records) → recordAt p r ≡ rule a b lo hi → ClimbedTo p y (suc r) g
+  climb-rule {y} {r} {g = g} c h e = subst⁻¹ (λ (k : ℕ). Climbed p y k g) (next-rule (p .records) r h e) c
 
-  module _ {y r a b : ℕ} {lo : ℤ} {ls g : List ℕ} (c : ClimbedTo y r g) (h : r < length (p .records)) (e : recordAt p r ≡ wish a b lo ls) where
-    unanswered : ((u : Times) → Left g u → lv (levels p u) (number r) ≤ y) → ClimbedTo y (suc r) g
-    unanswered none = subst⁻¹ (λ (k : ℕ). Climbed y k g) (next-wish (p .records) r h e) (reached-no c (wish-number (p .records) r h e) none)
+  module _ {y r a b : ℕ} {lo : ℤ} {ls g : List ℕ} (c : ClimbedTo p y r g) (h : r < length (p .records)) (e : recordAt p r ≡ wish a b lo ls) where
+    unanswered : ((u : Times) → Left p g u → lv (levels p u) (number p r) ≤ y) → ClimbedTo p y (suc r) g
+    unanswered none = subst⁻¹ (λ (k : ℕ). Climbed p y k g) (next-wish (p .records) r h e) (reached-no c (wish-number (p .records) r h e) none)
 
     -- a wish that failed at an earlier grade need not be asked
-    pub climb-failed : lv g (number r) < y → ClimbedTo y (suc r) g
+    pub climb-failed : lv g (number p r) < y → ClimbedTo p y (suc r) g
     climb-failed f = unanswered (fails-again c (wish-number (p .records) r h e) f)
 
     module _ {first past : ℕ} (run : Run (suc y) ls first past) (s : SinglePeaked ls) (top : y < TOP-LEVEL) where
       -- yes: a timetable left is within the run, and those within it are left
-      pub climb-yes : (u : Times) → Left g u → InRun lo first past (u b -ℤ u a) → ClimbedTo y (suc r) (set g (number r) (suc y))
-      climb-yes u l i = subst⁻¹ (λ (k : ℕ). Climbed y k (set g (number r) (suc y))) (next-wish (p .records) r h e)
+      pub climb-yes : (u : Times) → Left p g u → InRun lo first past (u b -ℤ u a) → ClimbedTo p y (suc r) (set g (number p r) (suc y))
+      climb-yes u l i = subst⁻¹ (λ (k : ℕ). Climbed p y k (set g (number p r) (suc y))) (next-wish (p .records) r h e)
           (reached-yes c (wish-number (p .records) r h e) l (question-bounds h e run s (omega arith) top u .1 i))
 
-      pub climb-within : (t : Times) → (Left g t × InRun lo first past (t b -ℤ t a)) ↔ Left (set g (number r) (suc y)) t
+      pub climb-within : (t : Times) → (Left p g t × InRun lo first past (t b -ℤ t a)) ↔ Left p (set g (number p r) (suc y)) t
       climb-within t = (
         λ q. rise .0 (q .0, question-bounds h e run s (omega arith) top t .1 (q .1)),
         λ q. (rise .1 q .0, question-bounds h e run s (omega arith) top t .0 (rise .1 q .1)),
       )
         where
-          rise : (Left g t × (suc y ≤ lv (levels p t) (number r))) ↔ Left (set g (number r) (suc y)) t
+          rise : (Left p g t × (suc y ≤ lv (levels p t) (number p r))) ↔ Left p (set g (number p r) (suc y)) t
           rise = raised c (wish-number (p .records) r h e) t
 
       -- no: no timetable left is within the run, and all are left
-      pub climb-no : ((u : Times) → Left g u → ¬ InRun lo first past (u b -ℤ u a)) → ClimbedTo y (suc r) g
-      climb-no none = unanswered (λ u l. low u l (decLe (suc y) (lv (levels p u) (number r))))
+      pub climb-no : ((u : Times) → Left p g u → ¬ InRun lo first past (u b -ℤ u a)) → ClimbedTo p y (suc r) g
+      climb-no none = unanswered (λ u l. low u l (decLe (suc y) (lv (levels p u) (number p r))))
         where
-          low : (u : Times) → Left g u → Dec (suc y ≤ lv (levels p u) (number r)) → lv (levels p u) (number r) ≤ y
+          low : (u : Times) → Left p g u → Dec (suc y ≤ lv (levels p u) (number p r)) → lv (levels p u) (number p r) ≤ y
           low u l (yes d) = absurd (none u l (question-bounds h e run s (omega arith) top u .0 d))
           low u l (no n) = omega arith
 
   -- past the last record the grade is done
-  pub climb-next : {y : ℕ} {g : List ℕ} → ClimbedTo y (length (p .records)) g → ClimbedTo (suc y) 0 g
-  climb-next {y} {g} c = reached-next (subst (λ (k : ℕ). Climbed y k g) (all-wishes (p .records)) c)
+  pub climb-next : {y : ℕ} {g : List ℕ} → ClimbedTo p y (length (p .records)) g → ClimbedTo p (suc y) 0 g
+  climb-next {y} {g} c = reached-next (subst (λ (k : ℕ). Climbed p y k g) (all-wishes (p .records)) c)
 
   -- the end of the ladder: the least times among the timetables left are the outcome, and the grades reached are its levels
-  pub ladder-solved : WithoutFault p → {g : List ℕ} → ClimbedTo TOP-LEVEL 0 g → (ts : List ℤ) → length ts ≡ p .events → Left g (at ts) →
-      ((u : Times) → Left g u → (e : ℕ) → e < p .events → at ts e ≤ℤ u e) → Solved p ts g
+  pub ladder-solved : WithoutFault p → {g : List ℕ} → ClimbedTo p TOP-LEVEL 0 g → (ts : List ℤ) → length ts ≡ p .events → Left p g (at ts) →
+      ((u : Times) → Left p g u → (e : ℕ) → e < p .events → at ts e ≤ℤ u e) → Solved p ts g
   ladder-solved good {g} c ts n m least = record {
     count = n;
     best = best (at ts) .0 m;
@@ -144,5 +126,5 @@ module _ (p : Plan) where
     least = λ u b. least u (best u .1 b);
   }
     where
-      best : (u : Times) → Left g u ↔ BestTimes p u
+      best : (u : Times) → Left p g u ↔ BestTimes p u
       best = reached-best c

@@ -11,7 +11,7 @@ use lib.Seq.{slice, length-slice, getD-append-add, ext-getD}
 use Rattle.meaning.specs.Plan as M
 use Rattle.meaning.specs.Plan.{MOST-LEVELS-TOGETHER, nothing, recordAt}
 use Rattle.meaning.specs.Reading.{levelsTogether}
-use Rattle.meaning.proofs.Faultless.{WithoutFault, Levelled}
+use Rattle.meaning.specs.Faultless.{WithoutFault, Levelled}
 use Rattle.text.proofs.Slices.{slice-at}
 use Rattle.plan.specs.declared.Record.{Record}
 use Rattle.plan.specs.declared.Plan.{Plan}

@@ -12,7 +12,7 @@ use lib.ListN.{length, take, drop, getD}
 use lib.Seq.{take-suc, length-take-le, getD-take, ext-getD, drop-cons}
 use Rattle.meaning.specs.Plan as M
 use Rattle.meaning.specs.Plan.{rule, wish, nothing, wishCount, wishes}
-use Rattle.meaning.proofs.Faultless.{Levelled, WithoutFault}
+use Rattle.meaning.specs.Faultless.{Levelled, WithoutFault}
 use Rattle.meaning.proofs.Wishes.{wishes-few}
 use Rattle.plan.specs.declared.Record.{Record}
 use Rattle.plan.specs.declared.Plan.{Plan}

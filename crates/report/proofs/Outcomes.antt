@@ -14,7 +14,7 @@ use Rattle.meaning.specs.Reading.{Reading, plan, refused, read}
 use Rattle.meaning.specs.Bounds.{Chain}
 use Rattle.meaning.specs.Known.{bytes}
 use Rattle.meaning.specs.Outcome.{Outcome, solved, none, refusal, Right, Solved, Areas, areas, longEnough, over, at, written, number, place, Promise}
-use Rattle.meaning.proofs.Faultless.{WithoutFault}
+use Rattle.meaning.specs.Faultless.{WithoutFault}
 use Rattle.meaning.proofs.Levels.{levels-count}
 use Rattle.meaning.proofs.ReadGood.{read-faultless}
 use Rattle.meaning.proofs.Refusals.{Refusal, refused-number}

@@ -13,7 +13,7 @@ ghost use Rattle.report.specs.Printed.{line, atLines, levelLines, ofReco
 ghost use Rattle.meaning.specs.Plan as M;
 ghost use Rattle.meaning.specs.Plan.{wishes, recordAt, MOST-EVENTS};
 ghost use Rattle.meaning.specs.Outcome.{solved, none, refusal};
-ghost use Rattle.meaning.proofs.Faultless.{WithoutFault};
+ghost use Rattle.meaning.specs.Faultless.{WithoutFault};
 ghost use Rattle.plan.specs.Held.{Holds, rowOf, planIn};
 ghost use Rattle.report.specs.Put.{Put};
 ghost use Rattle.report.specs.Rows.{levelLine, boundOf};

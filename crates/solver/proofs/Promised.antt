@@ -12,7 +12,7 @@ use Rattle.meaning.specs.Reading.{plan, refused, read}
 use Rattle.meaning.specs.Ladder.{Fair, Pareto, Highest}
 use Rattle.meaning.specs.Outcome.{Outcome, solved, none, refusal, number, place, at, Solved, Right, Areas, longEnough, heard, over, written, Promise}
 use Rattle.meaning.specs.Known.{Known, bytes, table}
-use Rattle.meaning.proofs.Faultless.{WithoutFault}
+use Rattle.meaning.specs.Faultless.{WithoutFault}
 use Rattle.meaning.proofs.ReadGood.{read-faultless}
 use Rattle.meaning.proofs.Fair.{best-fair, best-pareto, best-highest}
 use Rattle.meaning.proofs.Chains.{chain-excludes}

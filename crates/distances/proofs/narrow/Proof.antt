@@ -7,7 +7,8 @@ use mir.Syntax.{w32}
 use mir.Val.{toZ, ofZ}
 use denote.Ref.{now}
 use borrow.Author.Needs.{needs}
-use Rattle.distances.specs.Matrix.{at, added, meeting, Changed, Cut}
+use Rattle.meaning.specs.Distances.{added}
+use Rattle.distances.specs.Matrix.{at, meeting, Changed, Cut}
 use Rattle.ticks.proofs.Ticks.{back}
 use Rattle.distances.proofs.Range.{minus-fits}
 use Rattle.distances.proofs.Net.{Met, met, low-range, upper-asked, lower-asked, cut-net}

@@ -8,7 +8,7 @@ use mir.Val.{toZ, ofZ}
 use mir.Facts.{toZ-ofZ}
 use denote.Ref.{now}
 use borrow.Author.Needs.{needs}
-use Rattle.meaning.proofs.Run.{Run}
+use Rattle.meaning.specs.Run.{Run}
 use Rattle.ticks.proofs.Ticks.{back}
 use Rattle.ladder.specs.Climbing.{levelsAt}
 use Rattle.ladder.proofs.Runs.{run-of}
