@@ -1,14 +1,31 @@
-// The program: reads a plan text from standard input, and prints its outcome.
+// The program: reads a plan text from standard input, and prints its outcome. Where the text cannot be read whole it prints nothing, and says
+// why on standard error; so it does where the outcome cannot be written whole.
+use intake::Text;
 use libc::STDIN_FILENO;
 use libc::STDOUT_FILENO;
 
 // One byte more than a text may have: a longer one is refused for its length, whatever the rest of it says.
 const ENOUGH: usize = plan::MOST_BYTES + 1;
 
+// The outcome of a text goes to standard output. A disk may say only when the file is closed that it is full.
+fn print(text: &[u8]) {
+    let mut out = [0u8; report::AREA];
+    let m = report::answer(text, &mut out);
+    if !io::write_all(STDOUT_FILENO, &out[..m]) {
+        os::fail(b"standard output");
+        return;
+    }
+    if libc::close(STDOUT_FILENO) != 0 {
+        os::fail(b"standard output");
+    }
+}
+
 fn main() {
     let mut text = [0u8; ENOUGH];
-    let n = io::read_full(STDIN_FILENO, &mut text);
-    let mut out = [0u8; report::AREA];
-    let m = report::answer(&text[..n], &mut out);
-    io::write_all(STDOUT_FILENO, &out[..m]);
+    let read = intake::read_text(STDIN_FILENO, &mut text);
+    let Text::Whole(n) = read else {
+        os::fail(b"standard input");
+        return;
+    };
+    print(&text[..n]);
 }

@@ -1,43 +1,46 @@
--- `timetable::main` is safe and ends: what is read lies within the text's area, and the form within its own.
+-- `timetable::main` is safe and ends: the text that is handed on lies within its area.
 use mathlib.Core.Path.{sym}
 use lib.Seq.{length-take-le}
 use borrow.Author.Needs.{needs}
-use Rattle.report.proofs.Outcomes.{answered-within}
+use Rattle.intake.proofs.Turns.{whole-within}
 use Rattle.timetable.proofs.main.Statement.{statement}
 use Rattle.timetable.proofs.main.Tie as tie
 
-slice-aggregate-read-full : tie.Need-slice-aggregate-read-full
-slice-aggregate-read-full c = search needs
+slice-aggregate-read-text : tie.Need-slice-aggregate-read-text
+slice-aggregate-read-text c = search needs
 
-read-full-requires : tie.Need-read-full-requires
-read-full-requires c κs = search needs
+read-text-requires : tie.Need-read-text-requires
+read-text-requires c κs = search needs
 
-array-share-prefix-text : tie.Need-array-share-prefix-text
-array-share-prefix-text c = search needs
+enum-known-read : tie.Need-enum-known-read
+enum-known-read c = search needs
 
-slice-aggregate-answer : tie.Need-slice-aggregate-answer
-slice-aggregate-answer c = search needs
+enum-told : tie.Need-enum-told
+enum-told c = search needs
 
-slice-aggregate-answer-2 : tie.Need-slice-aggregate-answer-2
-slice-aggregate-answer-2 c = search needs
+slice-aggregate-fail : tie.Need-slice-aggregate-fail
+slice-aggregate-fail c = search needs
 
-answer-requires : tie.Need-answer-requires
-answer-requires c κs = search needs
-
-array-share-prefix-out : tie.Need-array-share-prefix-out
-array-share-prefix-out c = answered-within (c .before .answer .ensures)
-
-slice-aggregate-write-all : tie.Need-slice-aggregate-write-all
-slice-aggregate-write-all c = sym (length-take-le _ _ (answered-within (c .before .before .answer .ensures)))
-
-write-all-requires : tie.Need-write-all-requires
-write-all-requires c κs = search needs
+fail-requires : tie.Need-fail-requires
+fail-requires c κs = search needs
 
 returns : tie.Need-returns
 returns c = search needs
 
+array-share-prefix-text : tie.Need-array-share-prefix-text
+array-share-prefix-text c = whole-within (c .before .before .before .before .read-text .ensures) (c .before .read .given .1)
+
+slice-aggregate-print : tie.Need-slice-aggregate-print
+slice-aggregate-print c =
+    sym (length-take-le _ _ (whole-within (c .before .before .before .before .before .read-text .ensures) (c .before .before .read .given .1)))
+
+print-requires : tie.Need-print-requires
+print-requires c κs = search needs
+
+returns-2 : tie.Need-returns-2
+returns-2 c = search needs
+
 pub main-spec : {M : Type 1} → statement M
 main-spec =
     tie.close
-    (tie.spec slice-aggregate-read-full read-full-requires array-share-prefix-text slice-aggregate-answer slice-aggregate-answer-2 answer-requires
-    array-share-prefix-out slice-aggregate-write-all write-all-requires returns)
+    (tie.spec slice-aggregate-read-text read-text-requires enum-known-read enum-told slice-aggregate-fail fail-requires returns array-share-prefix-text slice-aggregate-print print-requires returns-2)
