@@ -11,7 +11,7 @@ use lib.ListN.{length, length-map}
 use lib.IntN.{ℤ}
 use Rattle.meaning.specs.Plan as M
 use Rattle.meaning.specs.Plan.{Times, Timetable}
-use Rattle.meaning.specs.Bounds.{Chain}
+use Rattle.meaning.specs.Bounds.{Holds, Chain}
 use Rattle.meaning.specs.Distances.{Keeps, Stands}
 use Rattle.meaning.specs.Outcome.{over}
 use Rattle.meaning.proofs.Bounds as B
@@ -72,14 +72,14 @@ module _ {p : M.Plan} {list : List Entry} (w : WithoutFault p) (s : Listed p lis
       all-into {t} h = a .keeps t .1 (start-keeps .1 (timetable-horizon h), λ k l m. timetable-holds h (boundAt list k) (place-given s w k m))
 
       -- a bound stands before the records' or among them
-      held : {t : Times} → Keeps (p .events) (at d′) t → (k : ℕ) → k < boundCount p → Dec (k < horizonCount p) → B.Holds t (boundAt list k)
+      held : {t : Times} → Keeps (p .events) (at d′) t → (k : ℕ) → k < boundCount p → Dec (k < horizonCount p) → Holds t (boundAt list k)
       held {t} h k m (yes l) = timetable-holds (bare-timetable p (start-keeps .0 (a .keeps t .0 h .0))) (boundAt list k)
           (rw (listed-horizon s) at (listed-at list (horizonCount p) k l (omega (arith, s .long, bound-count s w))))
       held {t} h k m (no l) = a .keeps t .0 h .1 k (omega arith) m
 
       all-from : {t : Times} → Keeps (p .events) (at d′) t → Timetable p t
       all-from {t} h = holds-timetable (h .origin)
-          (λ b g. let q = given-place s b g in subst (λ x. B.Holds t x) (q .is) (held h (q .place) (q .low) (decLt (q .place) (horizonCount p))))
+          (λ b g. let q = given-place s b g in subst (λ x. Holds t x) (q .is) (held h (q .place) (q .low) (decLt (q .place) (horizonCount p))))
 
       pub all-stands : Stands (p .events) (at d′) (Timetable p)
       all-stands = record { closed = all-net .closed; into = all-into; from = all-from }

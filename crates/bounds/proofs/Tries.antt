@@ -12,8 +12,7 @@ use lib.Seq.{take-suc}
 use lib.IntN.{ℤ, pos, _+ℤ_}
 use lib.Signed.{leZ, _<ℤ_}
 use Rattle.ticks.proofs.Ticks.{ticks, sum, leZ-false}
-use Rattle.meaning.specs.Bounds.{Bound}
-use Rattle.meaning.proofs.Bounds.{Holds}
+use Rattle.meaning.specs.Bounds.{Bound, Holds}
 use Rattle.meaning.proofs.Walks.{walks-wider, walks-add}
 use Rattle.distances.specs.Matrix.{at, Adding, Added}
 use Rattle.distances.proofs.Net.{changed-adds, added-means}

@@ -3,9 +3,9 @@ use mathlib.Core.Logic.{_↔_}
 use mathlib.Core.List.{List, List·Memᴰ}
 use Prim.Native.Nat.{ℕ, _≤_, _<_}
 use lib.IntN.{ℤ}
+use Rattle.meaning.specs.Bounds.{Holds}
 use Rattle.meaning.specs.Plan.{Times}
 use Rattle.meaning.specs.Distances.{Keeps, Clashes}
-use Rattle.meaning.proofs.Bounds.{Holds}
 use Rattle.meaning.proofs.Walks.{Walks}
 use Rattle.distances.specs.Matrix.{at, Net}
 use Rattle.chain.specs.declared.Bound.{Bound as Entry}

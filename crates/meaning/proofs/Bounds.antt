@@ -13,7 +13,7 @@ use lib.Signed.{_≤ℤ_}
 use Rattle.ticks.proofs.Ticks.{ticks}
 use Rattle.meaning.specs.Plan as P
 use Rattle.meaning.specs.Plan.{Record, nothing, Plan, recordAt, Times, Within, distance, Timetable}
-use Rattle.meaning.specs.Bounds.{Bound, upper, lower, horizonUpper, horizonLower, recordBounds, horizonBounds, bounds}
+use Rattle.meaning.specs.Bounds.{Bound, Holds, upper, lower, horizonUpper, horizonLower, recordBounds, horizonBounds, bounds}
 use Rattle.meaning.specs.Faultless.{WithoutFault}
 use Rattle.meaning.proofs.Distances.{Horizon}
 
@@ -89,9 +89,6 @@ bound-placed p w = each-bound p (Placed (p .events))
     (λ e h l. (record { starts = omega arith; ends = l; apart = λ q. omega arith }, record { starts = l; ends = omega arith; apart = λ q. omega arith }))
 
 -- ---- a timetable holds the bounds
-
-abbrev pub Holds : Times → Bound → Type 0
-Holds t b = t (b .end) ≤ℤ (t (b .start) +ℤ b .weight)
 
 -- a record is kept where both its bounds hold
 pub kept-upper : (t : Times) (k : ℕ) (r : Record) → Within (P.low r) (distance t r) (P.high r) → Holds t (upper k r)

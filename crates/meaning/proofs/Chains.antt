@@ -13,12 +13,12 @@ use lib.IntN.{pos, _+ℤ_}
 use lib.Signed.{_≤ℤ_, _<ℤ_}
 use Rattle.ticks.proofs.Ticks.{ticks, sum}
 use Rattle.meaning.specs.Plan.{Plan, Times, Timetable}
-use Rattle.meaning.specs.Bounds.{Bound, Leads, stop, step, total, distinct, different, starts, ends, Chain}
+use Rattle.meaning.specs.Bounds.{Bound, Leads, stop, step, total, distinct, different, starts, ends, Chain, Holds}
 use Rattle.meaning.specs.Faultless.{WithoutFault}
 use Rattle.meaning.specs.Distances.{Distances, Clashes}
 use Rattle.meaning.proofs.Distinct.{distinct-turn}
 use Rattle.meaning.proofs.Pigeons.{pigeons, different-all, different-again}
-use Rattle.meaning.proofs.Bounds.{Given, bound-placed, Holds, timetable-holds}
+use Rattle.meaning.proofs.Bounds.{Given, bound-placed, timetable-holds}
 use Rattle.meaning.proofs.Walks.{leads-join, total-join, Parted, Walk, Walks}
 
 -- ---- a chain excludes every timetable

@@ -30,3 +30,5 @@ pub mod Chains
 pub mod Exists
 pub mod Solve
 pub mod Promises
+-- what it all comes to
+pub mod Demands

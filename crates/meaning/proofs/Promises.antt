@@ -13,6 +13,7 @@ use Rattle.meaning.specs.Plan.{Plan}
 use Rattle.meaning.specs.Bounds.{Chain}
 use Rattle.meaning.specs.Reading.{Reading, plan, refused, read}
 use Rattle.meaning.specs.Outcome.{Outcome, solved, none, refusal, number, place, at, Solved, Right, Areas, longEnough, heard, written, Promise}
+use Rattle.meaning.specs.Demands.{Agree}
 use Rattle.meaning.specs.Faultless.{WithoutFault}
 use Rattle.meaning.proofs.ReadGood.{read-faultless}
 use Rattle.meaning.proofs.Fair.{best-levels}
@@ -85,13 +86,7 @@ one-outcome (refused m k) f (refusal n l) (solved us ms) a b = absurd b
 one-outcome (refused m k) f (refusal n l) (none ds) a b = absurd b
 one-outcome (refused m k) f (refusal n l) (refusal n′ l′) a b = same-if (λ i. refusal ((a .0 ∙ sym (b .0)) i) ((a .1 ∙ sym (b .1)) i))
 
--- what two runs on the same areas agree on
-pub record Agree (x y : Areas) (no mo at bt : ℕ) : Type 0 where
-  pub numbers : no ≡ mo
-  pub times : x .times ≡ y .times
-  pub levels : x .levels ≡ y .levels
-  pub rest : (no ≡ 1) ⊎ ((at ≡ bt) × (x .chain ≡ y .chain))
-
+-- what two calls on the same areas agree on
 pub one-promise : {text : List ℕ} {before x y : Areas} {no mo at bt : ℕ} → Promise text before x no at → Promise text before y mo bt → Agree x y no mo at bt
 one-promise {text} {before} {x} {y} {no = nu} {mo} {at} {bt} a b =
     go (one-outcome (heard before text) (heard-faultless before text) (a .outcome) (b .outcome) (a .right) (b .right)) (a .numbered) (b .numbered) (a .placed) (b .placed) (a .writes) (b .writes)

@@ -10,10 +10,10 @@ use lib.Signed.{_≤ℤ_, _<ℤ_}
 use Rattle.ticks.specs.Min.{minZ}
 use Rattle.ticks.proofs.Ticks.{ticks}
 use Rattle.meaning.specs.Plan.{Plan, recordAt, Times, Timetable}
-use Rattle.meaning.specs.Bounds.{Bound, upper, lower}
+use Rattle.meaning.specs.Bounds.{Bound, upper, lower, Holds}
 use Rattle.meaning.specs.Distances.{Distances, Closed, Keeps, Stands, Adds, addedBound, Meets, Clashes, horizonOnly, earliest}
 use Rattle.meaning.proofs.Distances.{adds-closed, adds-keeps, adds-old, adds-new, start-closed, start-means, means-start, earliest-holds}
-use Rattle.meaning.proofs.Bounds.{Holds, Placed, UpTo, up-to-none, up-to-next, up-to-less, up-to-upper, up-to-lower, up-to-all, timetable-up-to}
+use Rattle.meaning.proofs.Bounds.{Placed, UpTo, up-to-none, up-to-next, up-to-less, up-to-upper, up-to-lower, up-to-all, timetable-up-to}
 
 pub stands-same : {n : ℕ} {D : Distances} {X Y : Times → Type 0} → Stands n D X → ((t : Times) → X t ↔ Y t) → Stands n D Y
 stands-same s f = record { closed = s .closed; into = λ {t} y. s .into (f t .1 y); from = λ {t} k. f t .0 (s .from k) }

@@ -6,9 +6,9 @@ use Prim.Native.Nat.{ℕ, zero, suc, _+_, _*_, _-_, _≤_}
 use lib.Dec.{T, eqb}
 use lib.ListN.{length}
 use lib.IntN.{ℤ, pos, _+ℤ_, negℤ}
-use lib.Signed.{_<ℤ_}
+use lib.Signed.{_≤ℤ_, _<ℤ_}
 use Rattle.meaning.specs.Plan as P
-use Rattle.meaning.specs.Plan.{Record, Plan}
+use Rattle.meaning.specs.Plan.{Record, Plan, Times}
 
 -- t(end) − t(start) ≤ weight
 pub record Bound : Type 0 where
@@ -16,6 +16,10 @@ pub record Bound : Type 0 where
   pub end : ℕ
   pub weight : ℤ
   pub code : ℕ
+
+-- a row of times keeps it
+abbrev pub Holds : Times → Bound → Type 0
+Holds t b = t (b .end) ≤ℤ (t (b .start) +ℤ b .weight)
 
 -- of record k: an upper bound from a to b with weight hi and code 2k, a lower one from b to a with weight −lo and code 2k + 1
 abbrev pub upper : ℕ → Record → Bound

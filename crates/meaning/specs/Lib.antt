@@ -6,6 +6,8 @@ pub mod Bounds
 pub mod Ladder
 pub mod Outcome
 pub mod Known
+-- what it all comes to, for a caller
+pub mod Demands
 -- what the contracts of the crates above speak of besides: no part of the public promise
 pub mod Faultless
 pub mod Distances

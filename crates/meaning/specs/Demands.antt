@@ -1,0 +1,121 @@
+-- The three demands, that any two results agree, and the five idle versions of document 01, section 9, as statements about one call of the solver.
+-- In quotation marks the words of the customer. Each is shown for every call that keeps the promise (proofs/Demands, proofs/Idle).
+use mathlib.Core.Path.{_≡_}
+use mathlib.Core.Logic.{_↔_, _⊎_}
+use mathlib.Core.Bool.{true}
+use mathlib.Core.List.{List, [], _∷_, List·Memᴰ}
+use Prim.Native.Nat.{ℕ, _≤_, _<_}
+use lib.ListN.{length, take, drop}
+use lib.IntN.{ℤ}
+use lib.Signed.{_≤ℤ_}
+use Rattle.meaning.specs.Plan.{Plan, Times, Timetable, levels, wishes}
+use Rattle.meaning.specs.Reading.{plan, read}
+use Rattle.meaning.specs.Bounds.{Bound, Holds, bounds, Chain}
+use Rattle.meaning.specs.Ladder.{lv, Loss, Pareto, Highest}
+use Rattle.meaning.specs.Outcome.{at, BestTimes, Areas, longEnough, Promise}
+use Rattle.meaning.specs.Known.{bytes}
+
+-- what a call was given, and what came of it
+pub record Call : Type 0 where
+  pub text : List ℕ
+  pub before : Areas
+  pub after : Areas
+  pub number : ℕ
+  pub place : ℕ
+
+abbrev pub Kept : Call → Type 0
+Kept c = Promise (c .text) (c .before) (c .after) (c .number) (c .place)
+
+-- the text is the plan p, and the areas are long enough
+pub record Planned (c : Call) (p : Plan) : Type 0 where
+  pub reads : read (c .text) ≡ plan p
+  pub long : longEnough (c .before) ≡ true
+
+-- what stands in the areas afterwards: a time for each event, a level for each wish, the codes of the chain
+abbrev pub times : Call → Plan → List ℤ
+times c p = take (p .events) (c .after .times)
+
+abbrev pub grades : Call → List ℕ
+grades c = take (c .place) (c .after .levels)
+
+abbrev pub codes : Call → List ℕ
+codes c = take (c .place) (c .after .chain)
+
+-- ---- demand 1: "every text, damaged or huge, gets a result or a numbered refusal and nothing in the caller's memory changes but what is promised"
+
+-- nothing changed but the first k entries
+pub record FrontOnly {A : Type 0} (k : ℕ) (before after : List A) : Type 0 where
+  pub long : length after ≡ length before
+  pub rest : drop k after ≡ drop k before
+
+pub record Demand1 (c : Call) : Type 0 where
+  pub numbered : c .number ≤ 7
+  pub refused : 2 ≤ c .number → c .after ≡ c .before
+  pub solved : c .number ≡ 0 → (p : Plan) → Planned c p →
+      FrontOnly (p .events) (c .before .times) (c .after .times) × FrontOnly (c .place) (c .before .levels) (c .after .levels) × (c .after .chain ≡ c .before .chain)
+  pub none : c .number ≡ 1 →
+      (c .after .times ≡ c .before .times) × (c .after .levels ≡ c .before .levels) × FrontOnly (c .place) (c .before .chain) (c .after .chain)
+
+-- there is an outcome for every text and all areas
+abbrev pub EveryText : Type 0
+EveryText = (text : List ℕ) (before : Areas) → (after : Areas) × (no at : ℕ) × Promise text before after no at
+
+-- ---- demand 2: the times keep every bound; "'no timetable' comes exactly when none exists, with a closed chain of bounds that clash; the levels are
+-- those of the ladder, the times the" earliest "that have them"
+
+pub record Demand2 (c : Call) (p : Plan) : Type 0 where
+  pub keeps : c .number ≡ 0 → (b : Bound) → List·Memᴰ b (bounds p) → Holds (at (times c p)) b
+  pub exactly : (c .number ≡ 1) ↔ ((t : Times) → Timetable p t → ⊥)
+  pub clash : c .number ≡ 1 → Chain p (codes c)
+  pub best : c .number ≡ 0 → BestTimes p (at (times c p))
+  pub levelled : c .number ≡ 0 → grades c ≡ levels p (at (times c p))
+  pub earliest : c .number ≡ 0 → (u : Times) → BestTimes p u → (e : ℕ) → e < p .events → at (times c p) e ≤ℤ u e
+
+-- ---- demand 3: "Take a solved plan and any other timetable that keeps all bounds. If it lifts one wish above the level we returned, then some other
+-- wish has a level in it that is below that wish's returned one and no higher than the returned level of the lifted wish."
+
+abbrev pub Demand3 : Call → Plan → Type 0
+Demand3 c p = c .number ≡ 0 → (t : Times) → Timetable p t → (k : ℕ) → k < wishes p → lv (grades c) k < lv (levels p t) k → Loss (wishes p) k (grades c) (levels p t)
+
+-- "It also gives Pareto optimality and the greatest least level"
+pub record Optimal (c : Call) (p : Plan) : Type 0 where
+  pub pareto : c .number ≡ 0 → Pareto (Timetable p) (levels p) (wishes p) (at (times c p))
+  pub highest : c .number ≡ 0 → Highest (Timetable p) (levels p) (wishes p) (at (times c p))
+
+-- ---- "Any two outcomes that satisfy it are proved equal. The chosen chain is an exception"
+
+-- what two calls on the same text and areas agree on
+pub record Agree (x y : Areas) (no mo at bt : ℕ) : Type 0 where
+  pub numbers : no ≡ mo
+  pub times : x .times ≡ y .times
+  pub levels : x .levels ≡ y .levels
+  pub rest : (no ≡ 1) ⊎ ((at ≡ bt) × (x .chain ≡ y .chain))
+
+abbrev pub AnyTwoAgree : Type 0
+AnyTwoAgree = (text : List ℕ) (before x y : Areas) (no mo at bt : ℕ) → Promise text before x no at → Promise text before y mo bt → Agree x y no mo at bt
+
+-- ---- "Five idle versions have to be excluded"
+
+-- "One that refuses all plans": a plan in areas long enough is never refused, and a plan with a timetable is solved
+abbrev pub RefusesNoPlan : Type 0
+RefusesNoPlan = (c : Call) (p : Plan) → Planned c p → Kept c → (c .number < 2) × ((t : Times) → Timetable p t → c .number ≡ 0)
+
+-- "One with a fixed reply": no areas are right afterwards for every text
+abbrev pub NoFixedReply : Type 0
+NoFixedReply = (before after : Areas) → longEnough before ≡ true → ¬ ((text : List ℕ) → (no at : ℕ) × Promise text before after no at)
+
+-- "One that writes nothing"
+abbrev pub WritesSomething : Type 0
+WritesSomething = (before : Areas) → longEnough before ≡ true → ¬ ((text : List ℕ) → (no at : ℕ) × Promise text before before no at)
+
+-- "One that climbs the first grade only and keeps the rest: demand 3, case 6"
+abbrev pub ClimbsOn : Type 0
+ClimbsOn = (c : Call) → longEnough (c .before) ≡ true → c .text ≡ bytes "events\t3\t10\nwish\t0\t1\t0\t1\nwish\t1\t2\t1\t1\t2\t3\n" → Kept c → ¬ (grades c ≡ 1 ∷ 1 ∷ [])
+
+-- and the error of section 8, "Letting the first wish climb as far as it can: case 5 ends at 5, 0"
+abbrev pub ClimbsTogether : Type 0
+ClimbsTogether = (c : Call) → longEnough (c .before) ≡ true → c .text ≡ bytes "events\t2\t1\nwish\t0\t1\t0\t5\t1\nwish\t0\t1\t0\t0\t1\n" → Kept c → ¬ (grades c ≡ 5 ∷ 0 ∷ [])
+
+-- "One that invents the step count: demand 2, through section 5"
+abbrev pub CountsSteps : Type 0
+CountsSteps = (c : Call) (p : Plan) → Planned c p → Kept c → c .number ≡ 1 → (2 ≤ c .place) × (c .place ≤ p .events) × Chain p (codes c)
