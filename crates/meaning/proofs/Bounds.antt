@@ -1,6 +1,6 @@
--- The bounds of a plan: which they are, that their events are two different ones of the plan, and that a timetable is a row of times
--- that holds them all. A plan's timetables are told record by record too: `UpTo p k` keeps the horizon and the first k records.
-use mathlib.Core.Path.{_≡_, refl, sym, subst}
+-- The bounds of a plan: which they are, that a code names one of them, that their events are two different ones of the plan, and that a
+-- timetable is a row of times that holds them all. A plan's timetables are told record by record too: `UpTo p k` keeps the horizon and the first k records.
+use mathlib.Core.Path.{_≡_, refl, ap, sym, subst}
 use mathlib.Core.Logic.{⊎-elim}
 use mathlib.Core.List.{List, [], _∷_, List·Memᴰ, List·Memᴰ·head, List·Memᴰ·tail, List·Memᴰ·not-nil, List·Memᴰ·append-cases, Memᴰ·append-left, Memᴰ·append-right}
 use Prim.Native.Nat.{ℕ, zero, suc, _+_, _-_, _≤_, _<_, suc-le-suc}
@@ -74,6 +74,40 @@ module _ (p : Plan) where
 
   pub given-horizon-lower : (e : ℕ) → 1 ≤ e → e < p .events → Given p (horizonLower e)
   given-horizon-lower e h l = Memᴰ·append-right (recordBounds 0 (p .records)) (given-event (p .horizon) 1 (p .events - 1) e h (omega arith) .1)
+
+-- ---- a code names one bound: those of the records lie below 512, those of the horizon from there on
+
+-- two bounds with one code are one
+abbrev pub Told : Bound → Bound → Type 0
+Told b c = b .code ≡ c .code → b ≡ c
+
+-- no other bound of the plan has the code of b
+abbrev pub Alone : Plan → Bound → Type 0
+Alone p b = (c : Bound) → Given p c → Told b c
+
+-- so it is in a plan without fault: it has at most 256 records
+pub one-code : (p : Plan) → WithoutFault p → (b : Bound) → Given p b → Alone p b
+one-code p w = each-bound p (Alone p) (λ k h. (of-upper k h, of-lower k h)) (λ e h l. (of-horizon-upper e, of-horizon-lower e))
+  where
+    of-upper : (k : ℕ) → k < length (p .records) → Alone p (upper k (recordAt p k))
+    of-upper k h = each-bound p (Told (upper k (recordAt p k)))
+        (λ j i. (λ e. ap (λ n. upper n (recordAt p n)) (omega arith), λ e. absurd (omega arith)))
+        (λ f i l. (λ e. absurd (omega arith), λ e. absurd (omega arith)))
+
+    of-lower : (k : ℕ) → k < length (p .records) → Alone p (lower k (recordAt p k))
+    of-lower k h = each-bound p (Told (lower k (recordAt p k)))
+        (λ j i. (λ e. absurd (omega arith), λ e. ap (λ n. lower n (recordAt p n)) (omega arith)))
+        (λ f i l. (λ e. absurd (omega arith), λ e. absurd (omega arith)))
+
+    of-horizon-upper : (e : ℕ) → Alone p (horizonUpper (p .horizon) e)
+    of-horizon-upper e = each-bound p (Told (horizonUpper (p .horizon) e))
+        (λ j i. (λ q. absurd (omega arith), λ q. absurd (omega arith)))
+        (λ f i l. (λ q. ap (horizonUpper (p .horizon)) (omega arith), λ q. absurd (omega arith)))
+
+    of-horizon-lower : (e : ℕ) → Alone p (horizonLower e)
+    of-horizon-lower e = each-bound p (Told (horizonLower e))
+        (λ j i. (λ q. absurd (omega arith), λ q. absurd (omega arith)))
+        (λ f i l. (λ q. absurd (omega arith), λ q. ap horizonLower (omega arith)))
 
 -- ---- their events
 

@@ -133,7 +133,7 @@ module _ {p : Plan} (w : WithoutFault p) {from : ℕ} {steps : List Bound} (l : 
     counted = loop-counted;
     two = loop-two;
     most = loop-most;
-    least = h;
+    least = λ b m. omega (arith, h b m);
   }
 
 -- begun at its least event

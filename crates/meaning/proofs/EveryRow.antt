@@ -16,16 +16,8 @@ use Rattle.meaning.specs.Ladder.{Question, questions, replies, better}
 use Rattle.meaning.specs.Outcome.{BestTimes, at, Solved}
 use Rattle.meaning.specs.Reading.{same}
 use Rattle.meaning.specs.Faultless.{GoodRecord, WithoutFault}
+use Rattle.meaning.proofs.All.{implies, implied}
 use Rattle.meaning.proofs.Times.{timesFrom, times-at}
-
--- the second is computed only where the first passes
-abbrev implies : Bool → Bool → Bool
-implies true b = b
-implies false b = true
-
-implied : (a b : Bool) → T (implies a b) → T a → T b
-implied true b t s = t
-implied false b t s = absurd s
 
 -- ---- every row of times from 0 to H
 
@@ -121,7 +113,7 @@ is-inside H [] h e l = absurd (not-suc-le-zero l)
 is-inside H (t ∷ ts) h zero l = let b = and-yes (leZ (pos 0) t) _ h in record { above = leZ-yes (b .0); below = leZ-yes (and-yes (leZ t (pos H)) (inside H ts) (b .1) .0) }
 is-inside H (t ∷ ts) h (suc e) l = is-inside H ts (and-yes (leZ t (pos H)) (inside H ts) (and-yes (leZ (pos 0) t) _ h .1) .1) e (le-of-suc-le-suc l)
 
-is-same : (x y : List ℕ) → T (same x y) → x ≡ y
+pub is-same : (x y : List ℕ) → T (same x y) → x ≡ y
 is-same [] [] h = refl
 is-same [] (y ∷ ys) h = absurd h
 is-same (x ∷ xs) [] h = absurd h

@@ -1,6 +1,7 @@
--- Every outcome in the table of known plans is the right one of its text: one test that computes, over the reading of the text, every row of times, and the chain.
-use mathlib.Core.Path.{_≡_, refl, sym, subst}
-use mathlib.Core.List.{List, [], _∷_, List·Memᴰ, List·Memᴰ·head, List·Memᴰ·tail, List·Memᴰ·not-nil}
+-- Every outcome in the table of known plans is a right one of its text: one test that computes, over the reading of the text, every row of
+-- times, and the chain.
+use mathlib.Core.Path.{_≡_, refl}
+use mathlib.Core.List.{List, List·Memᴰ}
 use mathlib.Core.Bool.{Bool, true, false, _&&_}
 use Prim.Native.Nat.{ℕ}
 use lib.Dec.{T, eqb, eqb→eq}
@@ -11,6 +12,7 @@ use Rattle.meaning.specs.Reading.{Reading, plan, refused, read, split, d
 use Rattle.meaning.specs.Outcome.{Outcome, solved, none, refusal, number, place, Right, Areas, longEnough, written, Promise}
 use Rattle.meaning.specs.Known.{Known, bytes, table}
 use Rattle.meaning.specs.Faultless.{WithoutFault}
+use Rattle.meaning.proofs.All.{all-each}
 use Rattle.meaning.proofs.ReadGood.{read-faultless}
 use Rattle.meaning.proofs.EveryRow.{solvedTest, solved-right}
 use Rattle.meaning.proofs.ChainTest.{chainTest, chain-right}
@@ -41,18 +43,15 @@ pub record RightOutcome (k : Known) : Type 0 where
 
 -- ---- the table
 
-abbrev tableTest : List Known → Bool
-tableTest [] = true
-tableTest (k ∷ ks) = let r = tableTest ks in rightTest (read (bytes (k .text))) (k .outcome) && r
+abbrev rowTest : Known → Bool
+rowTest k = rightTest (read (bytes (k .text))) (k .outcome)
 
-all-right : (ks : List Known) → T (tableTest ks) → (k : Known) → List·Memᴰ k ks → RightOutcome k
-all-right [] h k m = absurd (List·Memᴰ·not-nil m)
-all-right (j ∷ ks) h k (List·Memᴰ·head e) =
-    let b = and-yes (rightTest (read (bytes (j .text))) (j .outcome)) (tableTest ks) h in
-    let r = is-right (read (bytes (j .text))) (j .outcome) (λ p e. read-faultless (bytes (j .text)) e) (b .0) in
-    subst RightOutcome (sym e) (record { right = r; promise = promised (bytes (j .text)) (j .outcome) r })
-all-right (j ∷ ks) h k (List·Memᴰ·tail m) = all-right ks (and-yes (rightTest (read (bytes (j .text))) (j .outcome)) (tableTest ks) h .1) k m
+row-right : (k : Known) → T (rowTest k) → RightOutcome k
+row-right k h =
+    let text : List ℕ = bytes (k .text) in
+    let r : Right (read text) (k .outcome) = is-right (read text) (k .outcome) (λ p e. read-faultless text e) h in
+    record { right = r; promise = promised text (k .outcome) r }
 
 pub known-right : (k : Known) → List·Memᴰ k table → RightOutcome k
 unfolding read split digitsOf numberOf lineForm lineStep peaked
-known-right = all-right table tt
+known-right k m = row-right k (all-each rowTest table tt k m)

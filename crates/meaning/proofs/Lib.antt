@@ -17,8 +17,10 @@ pub mod Tests
 pub mod ReadGood
 pub mod Refusals
 -- the known plans
+pub mod All
 pub mod EveryRow
 pub mod ChainTest
+pub mod WrongChains
 pub mod KnownRight
 -- bounds, chains, and that an outcome exists
 pub mod Distinct
@@ -30,5 +32,7 @@ pub mod Chains
 pub mod Exists
 pub mod Solve
 pub mod Promises
+-- the known plans have no other outcome
+pub mod KnownAlone
 -- what it all comes to
 pub mod Demands
