@@ -30,7 +30,7 @@ use Rattle.meaning.proofs.Promises.{some-outcome, one-promise}
 -- ---- written over the front of an area
 
 module _ {A : Type 0} (new old : List A) {after : List A} (k : ℕ) (e : after ≡ over new old) (l : k ≡ length new) where
-  front : take k after ≡ new
+  pub front : take k after ≡ new
   front = ap (λ x. take k x) e ∙ take-at new (drop (length new) old) k (sym l)
 
   front-only : length new ≤ length old → FrontOnly k old after
@@ -73,9 +73,9 @@ came c k = go (longEnough (c .before)) refl (read (c .text)) refl (k .outcome) (
 
 -- ---- a call on a plan: solved, or no timetable
 
-data Ended (c : Call) (p : Plan) : Type 0 where
-  with-times : (ts : List ℤ) (ls : List ℕ) → Solved p ts ls → c .number ≡ 0 → c .place ≡ length ls → c .after ≡ written (solved ts ls) (c .before) → Ended c p
-  with-chain : (cs : List ℕ) → Chain p cs → c .number ≡ 1 → c .place ≡ length cs → c .after ≡ written (none cs) (c .before) → Ended c p
+pub data Result (c : Call) (p : Plan) : Type 0 where
+  with-times : (ts : List ℤ) (ls : List ℕ) → Solved p ts ls → c .number ≡ 0 → c .place ≡ length ls → c .after ≡ written (solved ts ls) (c .before) → Result c p
+  with-chain : (cs : List ℕ) → Chain p cs → c .number ≡ 1 → c .place ≡ length cs → c .after ≡ written (none cs) (c .before) → Result c p
 
 module _ (c : Call) (p : Plan) (h : Planned c p) where
   good : WithoutFault p
@@ -84,27 +84,27 @@ module _ (c : Call) (p : Plan) (h : Planned c p) where
   long : LongEnough (c .before)
   long = long-areas (c .before) (h .long)
 
-  ended : Kept c → Ended c p
-  ended k = go (k .outcome) (subst (λ r. Right r (k .outcome)) (ap (λ b. cond b (read (c .text)) (refused 7 0)) (h .long) ∙ h .reads) (k .right)) (k .numbered) (k .placed) (k .writes)
+  pub result : Kept c → Result c p
+  result k = go (k .outcome) (subst (λ r. Right r (k .outcome)) (ap (λ b. cond b (read (c .text)) (refused 7 0)) (h .long) ∙ h .reads) (k .right)) (k .numbered) (k .placed) (k .writes)
     where
-      go : (o : Outcome) → Right (plan p) o → c .number ≡ number o → c .place ≡ place o → c .after ≡ written o (c .before) → Ended c p
+      go : (o : Outcome) → Right (plan p) o → c .number ≡ number o → c .place ≡ place o → c .after ≡ written o (c .before) → Result c p
       go (solved ts ls) x n l w = with-times ts ls x n l w
       go (none cs) x n l w = with-chain cs x n l w
       go (refusal i j) x n l w = absurd x
 
   -- the times and levels that are written are those of a solved plan
   pub solved-call : Kept c → c .number ≡ 0 → Solved p (times c p) (grades c)
-  solved-call k z = go (ended k)
+  solved-call k z = go (result k)
     where
-      go : Ended c p → Solved p (times c p) (grades c)
+      go : Result c p → Solved p (times c p) (grades c)
       go (with-times ts ls x n l w) = rw (front ts (c .before .times) (p .events) (ap (λ a. a .times) w) (sym (x .count)), front ls (c .before .levels) (c .place) (ap (λ a. a .levels) w) l) x
       go (with-chain cs x n l w) = absurd (omega arith)
 
   -- the codes that are written are those of a chain
   pub none-call : Kept c → c .number ≡ 1 → Chain p (codes c)
-  none-call k z = go (ended k)
+  none-call k z = go (result k)
     where
-      go : Ended c p → Chain p (codes c)
+      go : Result c p → Chain p (codes c)
       go (with-times ts ls x n l w) = absurd (omega arith)
       go (with-chain cs x n l w) = rw (front cs (c .before .chain) (c .place) (ap (λ a. a .chain) w) l) x
 
@@ -126,7 +126,7 @@ demand-1 c k = by (came c k)
     one-plan : {p q : Plan} → Planned c p → Planned c q → p ≡ q
     one-plan h g = let e = h .reads in let f = g .reads in cc
 
-    go : (p : Plan) → Planned c p → Ended c p → Demand1 c
+    go : (p : Plan) → Planned c p → Result c p → Demand1 c
     go p h (with-times ts ls x n l w) = record {
       numbered = omega arith;
       refused = λ r. absurd (omega arith);
@@ -145,7 +145,7 @@ demand-1 c k = by (came c k)
     }
 
     by : Came c → Demand1 c
-    by (on-plan p h) = go p h (ended c p h k)
+    by (on-plan p h) = go p h (result c p h k)
     by (turned-down l h e) = record { numbered = h; refused = λ _. e; solved = λ z. absurd (omega arith); none = λ o. absurd (omega arith) }
 
 pub every-text : EveryText
@@ -154,14 +154,14 @@ every-text text before = let x = some-outcome before text in (written (x .0) bef
 -- ---- demands 2 and 3
 
 module _ (c : Call) (p : Plan) (h : Planned c p) (k : Kept c) where
-  exactly : Ended c p → (c .number ≡ 1) ↔ ((t : Times) → Timetable p t → ⊥)
+  exactly : Result c p → (c .number ≡ 1) ↔ ((t : Times) → Timetable p t → ⊥)
   exactly (with-times ts ls x n l w) = (λ o. absurd (omega arith), λ f. absurd (f (at ts) (x .best .member)))
   exactly (with-chain cs x n l w) = (λ o t. chain-excludes x, λ f. n)
 
   pub demand-2 : Demand2 c p
   demand-2 = record {
     keeps = λ z. timetable-holds (solved-call c p h k z .best .member);
-    exactly = exactly (ended c p h k);
+    exactly = exactly (result c p h k);
     clash = none-call c p h k;
     best = λ z. solved-call c p h k z .best;
     levelled = λ z. solved-call c p h k z .levelled;

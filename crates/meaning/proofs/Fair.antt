@@ -77,18 +77,20 @@ module _ {A : Type 0} {S : A → Type 0} {lev : A → List ℕ} (w : ℕ) (count
 
 module _ {A : Type 0} {S : A → Type 0} {lev : A → List ℕ} {w : ℕ} {a : A} (f : Fair S lev w a) where
   pub fair-pareto : Pareto S lev w a
-  fair-pareto = record { pareto = λ b s up k h. go b s up k h (decLt (lv (lev a) k) (lv (lev b) k)) }
-    where
-      go : (b : A) → S b → ((j : ℕ) → j < w → lv (lev a) j ≤ lv (lev b) j) → (k : ℕ) → k < w → Dec (lv (lev a) k < lv (lev b) k) → lv (lev b) k ≡ lv (lev a) k
-      go b s up k h (yes l) = let x : Loss w k (lev a) (lev b) = f .fair b s k h l in omega (arith, up (x .other) (x .counts))
-      go b s up k h (no n) = omega (arith, up k h)
+  fair-pareto = record {
+    pareto = λ b s up k h. elim (decLt (lv (lev a) k) (lv (lev b) k)) [
+      yes l ↦ (let x : Loss w k (lev a) (lev b) = f .fair b s k h l in omega (arith, up (x .other) (x .counts)))
+    | no n ↦ omega (arith, up k h)
+    ];
+  }
 
   pub fair-highest : Highest S lev w a
-  fair-highest = record { highest = λ b s m all k h. go b s m all k h (decLt (lv (lev a) k) m) }
-    where
-      go : (b : A) → S b → (m : ℕ) → ((j : ℕ) → j < w → m ≤ lv (lev b) j) → (k : ℕ) → k < w → Dec (lv (lev a) k < m) → m ≤ lv (lev a) k
-      go b s m all k h (yes l) = let x : Loss w k (lev a) (lev b) = f .fair b s k h (omega (arith, all k h)) in omega (arith, all (x .other) (x .counts))
-      go b s m all k h (no n) = omega arith
+  fair-highest = record {
+    highest = λ b s m all k h. elim (decLt (lv (lev a) k) m) [
+      yes l ↦ (let x : Loss w k (lev a) (lev b) = f .fair b s k h (omega (arith, all k h)) in omega (arith, all (x .other) (x .counts)))
+    | no n ↦ omega arith
+    ];
+  }
 
 -- ---- for the timetables of a plan without fault
 

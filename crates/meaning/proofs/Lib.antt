@@ -36,3 +36,5 @@ pub mod Promises
 pub mod KnownAlone
 -- what it all comes to
 pub mod Demands
+pub mod Idle
+pub mod Unfair

@@ -1,17 +1,19 @@
--- Why a text is refused: the number is one of 2 to 6, for each test of a line has such a number, and the place is a line of the text or 0, for a text has at most one line more than it has bytes.
+-- Why a text is refused: the number is one of 2 to 6, for each test of a line has such a number, and the place is 0 for the text's length, or one of
+-- the text's lines, which are at most one more than its bytes.
 use mathlib.Core.Path.{_≡_, refl, subst}
+use mathlib.Core.Logic.{_⊎_, inl, inr}
 use mathlib.Core.List.{List, [], _∷_, map}
-use mathlib.Core.Bool.{Bool, true, false, not, cond, _&&_}
-use Prim.Native.Nat.{ℕ, _+_, _-_, _≤_}
+use mathlib.Core.Bool.{Bool, true, false, not, cond, _&&_, true≢false}
+use Prim.Native.Nat.{ℕ, _+_, _-_, _≤_, _<_, max}
 use native.Mathlib.Omega.{arith}
-use borrow.Author.Tests.{ltb-false}
+use borrow.Author.Tests.{ltb-true, ltb-false}
 use lib.Dec.{leb, ltb, eqb}
 use lib.ListN.{length}
 use lib.IntN.{pos, natAbs}
 use lib.Signed.{leZ}
 use Rattle.meaning.specs.Plan.{Plan, MOST-RECORDS, MOST-LEVELS, MOST-LEVELS-TOGETHER, MOST-HORIZON, MOST-EVENTS, MOST-BYTES}
 use Rattle.meaning.specs.Peak.{peaked}
-use Rattle.meaning.specs.Reading.{Form, eventsLine, ruleLine, wishLine, wrong, lineForm, grow, split, LINE-FEED, between, allLevels, inRange, sameEvent, lastOf, levelsTogether, Step, taken, fault, unless, firstLine, laterLine, lineStep, plan, refused, empty, afterStep, readPieces, read}
+use Rattle.meaning.specs.Reading.{Form, eventsLine, ruleLine, wishLine, wrong, lineForm, grow, split, LINE-FEED, between, allLevels, inRange, sameEvent, lastOf, levelsTogether, Step, taken, fault, unless, firstLine, laterLine, lineStep, plan, refused, empty, afterStep, readPieces, read, linesIn, lines}
 
 -- ---- the number of a fault
 
@@ -72,18 +74,29 @@ pieces-most b (x ∷ xs) = go (eqb x b) (pieces-most b xs)
     go true h = omega arith
     go false h = grown-most x (split b xs) (length (x ∷ xs)) (omega arith)
 
+-- no more lines than pieces, but for no piece at all
+lines-most : (ps : List (List ℕ)) → linesIn ps ≤ max 1 (length ps)
+lines-most [] = omega arith
+lines-most (l ∷ []) = go (eqb (length l) 0)
+  where
+    go : (t : Bool) → cond t 0 1 ≤ 1
+    go true = omega arith
+    go false = omega arith
+lines-most (l ∷ m ∷ ms) = omega (arith, lines-most (m ∷ ms))
+
 -- ---- the lines from the top
 
--- a refusal among so many lines, the first of them line number `from`
-record Among (from lines m k : ℕ) : Type 0 where
+-- a refusal at one of these lines, the first of them line number `from`; a first line counts also where it is empty
+record Among (from : ℕ) (ps : List (List ℕ)) (m k : ℕ) : Type 0 where
   number : Numbered m
-  place : k ≤ from + (lines - 1)
+  low : from ≤ k
+  high : k < from + max (linesIn ps) (2 - from)
 
-this-refusal : (j line lines : ℕ) {m k : ℕ} → Numbered j → refused j line ≡ refused m k → Among line lines m k
-this-refusal j line lines {m} {k} n e =
+this-refusal : (j line : ℕ) (ps : List (List ℕ)) {m k : ℕ} → Numbered j → line < line + max (linesIn ps) (2 - line) → refused j line ≡ refused m k → Among line ps m k
+this-refusal j line ps {m} {k} n h e =
     let d : j ≡ m = cc in
     let f : line ≡ k = cc in
-    record { number = subst Numbered d n; place = omega arith }
+    record { number = subst Numbered d n; low = omega arith; high = omega arith }
 
 no-refusal : {p : Plan} {m k : ℕ} {A : Type 0} → plan p ≡ refused m k → A
 no-refusal e = let z : _≡_ {A = ℕ} 0 1 = cc in absurd (omega arith)
@@ -91,25 +104,32 @@ no-refusal e = let z : _≡_ {A = ℕ} 0 1 = cc in absurd (omega arith)
 two : Numbered 2
 two = record { low = omega arith; high = omega arith }
 
-pieces-among : (ps : List (List ℕ)) (line : ℕ) (p : Plan) {m k : ℕ} → readPieces ps line p ≡ refused m k → Among line (length ps) m k
-pieces-among [] line p e = this-refusal 2 line 0 two e
-pieces-among (l ∷ []) line p {m} {k} e = go (eqb (length l) 0 && ltb 1 line) e
-  where
-    go : (t : Bool) → cond t (plan p) (refused 2 line) ≡ refused m k → Among line 1 m k
-    go true e = no-refusal e
-    go false e = this-refusal 2 line 1 two e
-pieces-among (l ∷ q ∷ qs) line p {m} {k} e = go (lineStep line p (lineForm l)) refl (λ r d. pieces-among (q ∷ qs) (line + 1) r d) e
-  where
-    go : (s : Step) → lineStep line p (lineForm l) ≡ s → ((r : Plan) → readPieces (q ∷ qs) (line + 1) r ≡ refused m k → Among (line + 1) (length (q ∷ qs)) m k) →
-        afterStep line (λ (r : Plan). readPieces (q ∷ qs) (line + 1) r) s ≡ refused m k → Among line (length (l ∷ q ∷ qs)) m k
-    go (taken r) d f e = let a = f r e in record { number = a .number; place = omega (arith, a .place) }
-    go (fault j) d f e = this-refusal j line (length (l ∷ q ∷ qs)) (step-number line p (lineForm l) d) e
+-- what follows the last line feed is a line where it is refused
+last-line : (line : ℕ) (l : List ℕ) (s t : Bool) → eqb (length l) 0 ≡ s → ltb 1 line ≡ t → (s && t) ≡ false → line < line + max (cond s 0 1) (2 - line)
+last-line line l true true a b c = absurd (true≢false c)
+last-line line l true false a b c = omega (arith, ltb-false 1 line b)
+last-line line l false t a b c = omega arith
 
--- a text above the limit of its length is refused at place 0, so no line is above that limit either
+pieces-among : (ps : List (List ℕ)) (line : ℕ) (p : Plan) {m k : ℕ} → 1 ≤ line → readPieces ps line p ≡ refused m k → Among line ps m k
+pieces-among [] line p o e = this-refusal 2 line [] two (omega arith) e
+pieces-among (l ∷ []) line p {m} {k} o e = go (eqb (length l) 0 && ltb 1 line) refl e
+  where
+    go : (t : Bool) → (eqb (length l) 0 && ltb 1 line) ≡ t → cond t (plan p) (refused 2 line) ≡ refused m k → Among line (l ∷ []) m k
+    go true d e = no-refusal e
+    go false d e = this-refusal 2 line (l ∷ []) two (last-line line l (eqb (length l) 0) (ltb 1 line) refl refl d) e
+pieces-among (l ∷ q ∷ qs) line p {m} {k} o e = go (lineStep line p (lineForm l)) refl (λ r d. pieces-among (q ∷ qs) (line + 1) r (omega arith) d) e
+  where
+    go : (s : Step) → lineStep line p (lineForm l) ≡ s → ((r : Plan) → readPieces (q ∷ qs) (line + 1) r ≡ refused m k → Among (line + 1) (q ∷ qs) m k) →
+        afterStep line (λ (r : Plan). readPieces (q ∷ qs) (line + 1) r) s ≡ refused m k → Among line (l ∷ q ∷ qs) m k
+    go (taken r) d f e = let a = f r e in record { number = a .number; low = omega (arith, a .low); high = omega (arith, a .high) }
+    go (fault j) d f e = this-refusal j line (l ∷ q ∷ qs) (step-number line p (lineForm l) d) (omega arith) e
+
+-- the number of a refusal, and its place: 0 for a text that is too long, else one of the text's lines
 pub record Refusal (text : List ℕ) (m k : ℕ) : Type 0 where
   pub low : 2 ≤ m
   pub high : m ≤ 6
-  pub line : k ≤ length text + 1
+  pub line : ((m ≡ 3) × (k ≡ 0) × (MOST-BYTES < length text)) ⊎ ((1 ≤ k) × (k ≤ lines text) × (length text ≤ MOST-BYTES))
+  -- a text above the limit of its length is refused at place 0, so no line is above that limit either
   pub most : k ≤ MOST-BYTES + 1
 
 pub refused-number : (text : List ℕ) {m k : ℕ} → read text ≡ refused m k → Refusal text m k
@@ -118,9 +138,16 @@ refused-number text {m} {k} e = go (ltb MOST-BYTES (length text)) refl e
   where
     go : (t : Bool) → ltb MOST-BYTES (length text) ≡ t → cond t (refused 3 0) (readPieces (split LINE-FEED text) 1 empty) ≡ refused m k → Refusal text m k
     go true d e =
-        let a = this-refusal 3 0 0 (record { low = omega arith; high = omega arith }) e in
-        record { low = a .number .low; high = a .number .high; line = omega (arith, a .place); most = omega (arith, a .place) }
+        let f : 3 ≡ m = cc in
+        let g : 0 ≡ k = cc in
+        record { low = omega arith; high = omega arith; line = inl (omega arith, omega arith, ltb-true MOST-BYTES (length text) d); most = omega arith }
     go false d e =
-        let a = pieces-among (split LINE-FEED text) 1 empty e in
-        let h : k ≤ length text + 1 = omega (arith, a .place, pieces-most LINE-FEED text) in
-        record { low = a .number .low; high = a .number .high; line = h; most = omega (arith, ltb-false) }
+        let ps : List (List ℕ) = split LINE-FEED text in
+        let a = pieces-among ps 1 empty (omega arith) e in
+        let few : length text ≤ MOST-BYTES = ltb-false MOST-BYTES (length text) d in
+        record {
+          low = a .number .low;
+          high = a .number .high;
+          line = inr (a .low, omega (arith, a .high), few);
+          most = omega (arith, a .high, pieces-most LINE-FEED text, lines-most ps);
+        }

@@ -5,6 +5,7 @@ use mathlib.Core.Logic.{_↔_, _⊎_}
 use mathlib.Core.Bool.{true}
 use mathlib.Core.List.{List, [], _∷_, List·Memᴰ}
 use Prim.Native.Nat.{ℕ, _≤_, _<_}
+use Prim.Native.String.{String}
 use lib.ListN.{length, take, drop}
 use lib.IntN.{ℤ}
 use lib.Signed.{_≤ℤ_}
@@ -12,8 +13,8 @@ use Rattle.meaning.specs.Plan.{Plan, Times, Timetable, levels, wishes}
 use Rattle.meaning.specs.Reading.{plan, read}
 use Rattle.meaning.specs.Bounds.{Bound, Holds, bounds, Chain}
 use Rattle.meaning.specs.Ladder.{lv, Loss, Pareto, Highest}
-use Rattle.meaning.specs.Outcome.{at, BestTimes, Areas, longEnough, Promise}
-use Rattle.meaning.specs.Known.{bytes}
+use Rattle.meaning.specs.Outcome.{Outcome, number, place, at, BestTimes, Areas, longEnough, written, Promise}
+use Rattle.meaning.specs.Known.{Known, bytes, CASE-5, CASE-6, table}
 
 -- what a call was given, and what came of it
 pub record Call : Type 0 where
@@ -94,6 +95,17 @@ pub record Agree (x y : Areas) (no mo at bt : ℕ) : Type 0 where
 abbrev pub AnyTwoAgree : Type 0
 AnyTwoAgree = (text : List ℕ) (before x y : Areas) (no mo at bt : ℕ) → Promise text before x no at → Promise text before y mo bt → Agree x y no mo at bt
 
+-- ---- "Case 2 and the starred cases are one table with a single statement that covers it"
+
+-- the call ended in this outcome, and nothing else was written
+pub record Ended (c : Call) (o : Outcome) : Type 0 where
+  pub numbered : c .number ≡ number o
+  pub placed : c .place ≡ place o
+  pub writes : c .after ≡ written o (c .before)
+
+abbrev pub KnownPlans : Type 0
+KnownPlans = (k : Known) → List·Memᴰ k table → (c : Call) → c .text ≡ bytes (k .text) → longEnough (c .before) ≡ true → Kept c → Ended c (k .outcome)
+
 -- ---- "Five idle versions have to be excluded"
 
 -- "One that refuses all plans": a plan in areas long enough is never refused, and a plan with a timetable is solved
@@ -108,13 +120,17 @@ NoFixedReply = (before after : Areas) → longEnough before ≡ true → ¬ ((te
 abbrev pub WritesSomething : Type 0
 WritesSomething = (before : Areas) → longEnough before ≡ true → ¬ ((text : List ℕ) → (no at : ℕ) × Promise text before before no at)
 
--- "One that climbs the first grade only and keeps the rest: demand 3, case 6"
-abbrev pub ClimbsOn : Type 0
-ClimbsOn = (c : Call) → longEnough (c .before) ≡ true → c .text ≡ bytes "events\t3\t10\nwish\t0\t1\t0\t1\nwish\t1\t2\t1\t1\t2\t3\n" → Kept c → ¬ (grades c ≡ 1 ∷ 1 ∷ [])
+-- a text does not end with these levels
+abbrev pub NeverEndsAt : String → List ℕ → Type 0
+NeverEndsAt text g = (c : Call) → c .text ≡ bytes text → longEnough (c .before) ≡ true → Kept c → ¬ (grades c ≡ g)
 
--- and the error of section 8, "Letting the first wish climb as far as it can: case 5 ends at 5, 0"
+-- "One that climbs the first grade only and keeps the rest: demand 3, case 6"; section 8, "Stopping at the greatest least level: case 6 ends at 1, 1"
+abbrev pub ClimbsOn : Type 0
+ClimbsOn = NeverEndsAt CASE-6 (1 ∷ 1 ∷ [])
+
+-- section 8, "Letting the first wish climb as far as it can: case 5 ends at 5, 0"
 abbrev pub ClimbsTogether : Type 0
-ClimbsTogether = (c : Call) → longEnough (c .before) ≡ true → c .text ≡ bytes "events\t2\t1\nwish\t0\t1\t0\t5\t1\nwish\t0\t1\t0\t0\t1\n" → Kept c → ¬ (grades c ≡ 5 ∷ 0 ∷ [])
+ClimbsTogether = NeverEndsAt CASE-5 (5 ∷ 0 ∷ [])
 
 -- "One that invents the step count: demand 2, through section 5"
 abbrev pub CountsSteps : Type 0

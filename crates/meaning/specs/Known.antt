@@ -19,14 +19,21 @@ pub record Known : Type 0 where
 abbrev known : String → Outcome → Known
 known t o = record { text = t; outcome = o }
 
+-- the cases that section 8 and section 9 speak of
+abbrev pub CASE-5 : String
+CASE-5 = "events\t2\t1\nwish\t0\t1\t0\t5\t1\nwish\t0\t1\t0\t0\t1\n"
+
+abbrev pub CASE-6 : String
+CASE-6 = "events\t3\t10\nwish\t0\t1\t0\t1\nwish\t1\t2\t1\t1\t2\t3\n"
+
 abbrev pub table : List Known
 table =
     known "events\t1\t0\n" (solved (pos 0 ∷ []) [])
     ∷ known "events\t4\t20\nrule\t0\t1\t3\t3\nrule\t1\t2\t0\t20\nwish\t2\t3\t2\t0\t1\t3\t2\nwish\t0\t3\t4\t3\t3\t2\t2\t1\t0\n" (solved (pos 0 ∷ pos 3 ∷ pos 3 ∷ pos 7 ∷ []) (3 ∷ 2 ∷ []))
     ∷ known "events\t2\t1\nwish\t0\t1\t0\t0\t1\nwish\t0\t1\t0\t1\t0\n" (solved (pos 0 ∷ pos 1 ∷ []) (1 ∷ 0 ∷ []))
     ∷ known "events\t2\t1\nwish\t0\t1\t0\t1\t0\nwish\t0\t1\t0\t0\t1\n" (solved (pos 0 ∷ pos 0 ∷ []) (1 ∷ 0 ∷ []))
-    ∷ known "events\t2\t1\nwish\t0\t1\t0\t5\t1\nwish\t0\t1\t0\t0\t1\n" (solved (pos 0 ∷ pos 1 ∷ []) (1 ∷ 1 ∷ []))
-    ∷ known "events\t3\t10\nwish\t0\t1\t0\t1\nwish\t1\t2\t1\t1\t2\t3\n" (solved (pos 0 ∷ pos 0 ∷ pos 3 ∷ []) (1 ∷ 3 ∷ []))
+    ∷ known CASE-5 (solved (pos 0 ∷ pos 1 ∷ []) (1 ∷ 1 ∷ []))
+    ∷ known CASE-6 (solved (pos 0 ∷ pos 0 ∷ pos 3 ∷ []) (1 ∷ 3 ∷ []))
     ∷ known "events\t3\t10\nrule\t0\t1\t4\t10\nrule\t1\t2\t4\t10\nrule\t0\t2\t0\t7\n" (none (4 ∷ 3 ∷ 1 ∷ []))
     ∷ known "events\t3\t10\nrule\t0\t1\t4\t10\nrule\t1\t2\t4\t10\nrule\t0\t2\t0\t8\n" (solved (pos 0 ∷ pos 4 ∷ pos 8 ∷ []) [])
     ∷ known "events\t2\t3\nrule\t0\t1\t4\t10\n" (none (514 ∷ 1 ∷ []))

@@ -1,5 +1,5 @@
 -- The plan text: document 01, sections 2 and 3. Its reading is a plan, or the number and the line of the first fault.
-use Prim.Native.Nat.{ℕ, _+_, _-_, _*_}
+use Prim.Native.Nat.{ℕ, suc, _+_, _-_, _*_, max}
 use mathlib.Core.Bool.{Bool, true, false, cond, _&&_, not}
 use mathlib.Core.Option.{Option, none, some}
 use mathlib.Core.List.{List, [], _∷_, _++_, map}
@@ -219,3 +219,12 @@ readPieces (l ∷ m ∷ ms) line p = afterStep line (λ (q : Plan). readPieces (
 -- 3 at place 0 for the text's length; then the lines from the top
 unfoldable pub read : List ℕ → Reading
 read text = cond (ltb MOST-BYTES (length text)) (refused 3 0) (readPieces (split LINE-FEED text) 1 empty)
+
+-- how many lines a text has: what follows the last line feed is one unless it is empty, and the empty text has one
+abbrev pub linesIn : List (List ℕ) → ℕ
+linesIn [] = 1
+linesIn (l ∷ []) = cond (eqb (length l) 0) 0 1
+linesIn (l ∷ m ∷ ms) = suc (linesIn (m ∷ ms))
+
+abbrev pub lines : List ℕ → ℕ
+lines text = max 1 (linesIn (split LINE-FEED text))
