@@ -79,16 +79,16 @@ module _ {A : Type 0} {S : A → Type 0} {lev : A → List ℕ} {w : ℕ} {a : A
   pub fair-pareto : Pareto S lev w a
   fair-pareto = record {
     pareto = λ b s up k h. elim (decLt (lv (lev a) k) (lv (lev b) k)) [
-      yes l ↦ (let x : Loss w k (lev a) (lev b) = f .fair b s k h l in omega (arith, up (x .other) (x .counts)))
-    | no n ↦ omega (arith, up k h)
+      | yes l ↦ (let x : Loss w k (lev a) (lev b) = f .fair b s k h l in omega (arith, up (x .other) (x .counts)))
+      | no n ↦ omega (arith, up k h)
     ];
   }
 
   pub fair-highest : Highest S lev w a
   fair-highest = record {
     highest = λ b s m all k h. elim (decLt (lv (lev a) k) m) [
-      yes l ↦ (let x : Loss w k (lev a) (lev b) = f .fair b s k h (omega (arith, all k h)) in omega (arith, all (x .other) (x .counts)))
-    | no n ↦ omega arith
+      | yes l ↦ (let x : Loss w k (lev a) (lev b) = f .fair b s k h (omega (arith, all k h)) in omega (arith, all (x .other) (x .counts)))
+      | no n ↦ omega arith
     ];
   }
 
