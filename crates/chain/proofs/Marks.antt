@@ -117,7 +117,8 @@ module _ (list : List Entry) (d : List ℤ) (m a : ℕ) where
         part = λ k b g o. ap (λ (x : ℕ). member x (boundAt list k .start)) p ∙ at k b g o (ℕ-discrete k i);
       }
     where
-      at : (k : ℕ) → k < i + 1 → TightAt list d a k → member s (boundAt list k .end) ≡ true → Dec (k ≡ i) → member (putIn r (boundAt list i .start)) (boundAt list k .start) ≡ true
+      at : (k : ℕ) → k < i + 1 → TightAt list d a k → member s (boundAt list k .end) ≡ true → Dec (k ≡ i)
+          → member (putIn r (boundAt list i .start)) (boundAt list k .start) ≡ true
       at k b g o (yes e) = ap (λ (x : ℕ). member (putIn r (boundAt list i .start)) (boundAt list x .start)) e ∙ put-same r (boundAt list i .start)
       at k b g o (no n) = put-keeps r (boundAt list i .start) (boundAt list k .start) (c .part k (omega arith) g o)
 
