@@ -63,17 +63,17 @@ module _ (list : List Entry) (d : List ℤ) (n m : ℕ) (nx : List ℕ) (broken 
   end-low : {u v : ℕ} {w : ℤ} → Fit n u v w → v < WIDTH
   end-low f = omega (arith, broken .table .events, f .end)
 
-  module _ (s : ℕ) (marked : Reached list d m (β .start) (β .end) s nx) where
+  module _ {nx₀ : List ℕ} (s : ℕ) (marked : Reached list d m (β .start) (β .end) nx₀ s nx) where
     pub start-inside : 2 * β .start + 1 < length nx
-    start-inside = omega (arith, start-low (broken .given .fit m (omega arith)), marked .marked .notes .room)
+    start-inside = omega (arith, start-low (broken .given .fit m (omega arith)), marked .notes .room)
 
     pub way-back : Trail list d m (β .start) s nx (β .end)
-    way-back = trail list d m (β .start) (β .end) (broken .self) (marked .marked .tree) (marked .reached)
+    way-back = trail list d m (β .start) (β .end) (broken .self) (marked .marks) (marked .reached)
 
     pub closed-notes : Notes closed
     closed-notes =
         let f = broken .given .fit m (omega arith) in
-        notes-note nx (β .start) (β .end) (β .code) (start-low f) (end-low f) (marked .marked .notes)
+        notes-note nx (β .start) (β .end) (β .code) (start-low f) (end-low f) (marked .notes)
 
     pub closed-path : Path closed (β .start) (β .end) (way-back .steps)
     closed-path = record {

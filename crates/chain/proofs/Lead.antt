@@ -1,9 +1,10 @@
 -- What a caller needs: distances that are the weights of walks along the first m bounds give the tight way that `chain_of` asks for,
--- since such a walk is tight at every step; and what it finds is a chain of the plan.
-use mathlib.Core.Path.{_≡_, refl, sym, ap, subst}
+-- since such a walk is tight at every step; and what it finds is a chain of the plan, of 2 to n steps.
+use mathlib.Core.Path.{_≡_, refl, sym, ap, subst, _∙_}
 use mathlib.Core.List.{List, [], _∷_, map, List·Memᴰ, List·Memᴰ·head, List·Memᴰ·tail, List·Memᴰ·not-nil}
-use Prim.Native.Nat.{ℕ, zero, suc, _+_, _<_, zero-le, suc-le-suc}
+use Prim.Native.Nat.{ℕ, zero, suc, _+_, _≤_, _<_, zero-le, suc-le-suc}
 use native.Mathlib.Omega.{arith}
+use lib.ListN.{length, length-map}
 use lib.IntN.{ℤ}
 use Rattle.meaning.specs.Plan.{Plan}
 use Rattle.meaning.specs.Bounds.{Bound, Leads, stop, step, Chain}
@@ -57,7 +58,15 @@ broken {list} {m = m} {d = d} net given walks clash =
       below = clash;
     }
 
-pub found-chain : {p : Plan} → WithoutFault p → {bounds : List Bound} {before : List ℕ} {r : ℕ} {after : List ℕ} → ((x : Bound) → List·Memᴰ x bounds → B.Given p x)
-    → (f : Found bounds before r after) → Chain p (map (λ b. b .code) (f .steps))
+pub found-chain : {p : Plan} → WithoutFault p → {bounds : List Bound} {before : List ℕ} {r : ℕ} {after : List ℕ}
+    → ((x : Bound) → List·Memᴰ x bounds → B.Given p x) → (f : Found bounds before r after) → Chain p (map (λ b. b .code) (f .steps))
 found-chain w h f =
     loop-chain w (record { closed = f .closed; given = λ x i. h x (f .given x i); once = f .once; negative = f .negative }) (f .least)
+
+-- the number of steps is 2 to n
+pub found-steps : {p : Plan} → WithoutFault p → {bounds : List Bound} {before : List ℕ} {r : ℕ} {after : List ℕ}
+    → ((x : Bound) → List·Memᴰ x bounds → B.Given p x) → Found bounds before r after → (2 ≤ r) × (r ≤ p .events)
+found-steps w h f =
+    let c = found-chain w h f in
+    let e : length (c .steps) ≡ length (f .steps) = sym (length-map (c .steps) (λ b. b .code)) ∙ ap length (c .coded) ∙ length-map (f .steps) (λ b. b .code) in
+    (omega (arith, e, c .two, f .counted), omega (arith, e, c .most, f .counted))

@@ -1,10 +1,10 @@
 -- A note stored at an event: it is read back there, all other events keep theirs, and the notes still lead from event to event.
 use mathlib.Core.Path.{_≡_, ap, _∙_}
 use mathlib.Core.List.{List}
-use Prim.Native.Nat.{ℕ, _+_, _*_, _<_}
+use Prim.Native.Nat.{ℕ, _+_, _*_, _/_, _<_}
 use native.Mathlib.Omega.{arith}
 use native.Mathlib.Decide.{ℕ-discrete}
-use lib.ListN.{length, set, length-set}
+use lib.ListN.{length, getD, set, length-set}
 use lib.Seq.{getD-set-same, getD-set-other}
 use Rattle.eventset.specs.Sets.{WIDTH}
 use Rattle.meaning.specs.Bounds.{Bound}
@@ -19,15 +19,17 @@ end-same nx u v c l = getD-set-other (set nx (2 * u) v) (2 * u + 1) (2 * u) c 0 
 pub code-same : (nx : List ℕ) (u v c : ℕ) → 2 * u + 1 < length nx → codeAt (note nx u v c) u ≡ c
 code-same nx u v c l = getD-set-same (set nx (2 * u) v) (2 * u + 1) c 0 (omega (arith, length-set nx (2 * u) v))
 
+-- entry k is that of event k / 2
+pub entry-other : (nx : List ℕ) (u v c k : ℕ) → (k / 2 ≡ u → ⊥) → getD (note nx u v c) k 0 ≡ getD nx k 0
+entry-other nx u v c k n =
+    getD-set-other (set nx (2 * u) v) (2 * u + 1) k c 0 (λ p. n (omega (arith, p)))
+    ∙ getD-set-other nx (2 * u) k v 0 (λ p. n (omega (arith, p)))
+
 pub end-other : (nx : List ℕ) (u v c e : ℕ) → (e ≡ u → ⊥) → endAt (note nx u v c) e ≡ endAt nx e
-end-other nx u v c e n =
-    getD-set-other (set nx (2 * u) v) (2 * u + 1) (2 * e) c 0 (λ p. omega (arith, p))
-    ∙ getD-set-other nx (2 * u) (2 * e) v 0 (λ p. n (omega (arith, p)))
+end-other nx u v c e n = entry-other nx u v c (2 * e) (λ p. n (omega (arith, p)))
 
 pub code-other : (nx : List ℕ) (u v c e : ℕ) → (e ≡ u → ⊥) → codeAt (note nx u v c) e ≡ codeAt nx e
-code-other nx u v c e n =
-    getD-set-other (set nx (2 * u) v) (2 * u + 1) (2 * e + 1) c 0 (λ p. n (omega (arith, p)))
-    ∙ getD-set-other nx (2 * u) (2 * e + 1) v 0 (λ p. omega (arith, p))
+code-other nx u v c e n = entry-other nx u v c (2 * e + 1) (λ p. n (omega (arith, p)))
 
 -- a bound noted at another event stays noted
 pub noted-other : (nx : List ℕ) (u v c : ℕ) (x : Bound) → (x .start ≡ u → ⊥) → Noted nx x → Noted (note nx u v c) x

@@ -9,14 +9,14 @@ use lib.Dec.{T}
 use lib.ListN.{length}
 use lib.IntN.{ℤ, pos, _+ℤ_}
 use Rattle.eventset.specs.Sets.{member, putIn}
-use Rattle.eventset.proofs.Laws.{put-same, put-other, put-keeps, one-other}
+use Rattle.eventset.proofs.Laws.{put-same, put-other, put-keeps, one-member, one-other}
 use Rattle.meaning.specs.Bounds.{Bound, Leads, stop, step, total, distinct, ends}
 use Rattle.meaning.proofs.Distinct.{distinct-cons}
 use Rattle.distances.specs.Matrix.{at}
 use Rattle.chain.specs.declared.Bound.{Bound as Entry}
 use Rattle.chain.specs.Clash.{boundAt, TightAt}
-use Rattle.chain.specs.Marks.{note, Noted, Tree, root, put}
-use Rattle.chain.proofs.Marks.{not-both, tree-root}
+use Rattle.chain.specs.Marks.{note, Noted, Marks, same, more}
+use Rattle.chain.proofs.Marks.{not-both, marks-keep}
 use Rattle.chain.proofs.Notes.{noted-other, noted-same}
 use Rattle.chain.proofs.Lead.{Place}
 
@@ -107,19 +107,21 @@ module _ (list : List Entry) (d : List ℤ) (m a : ℕ) where
           })
       passed x (List·Memᴰ·tail j) = keep-passed s nx u (β .end) (β .code) x z (t .each x j)
 
-  pub trail : {s : ℕ} {nx : List ℕ} (e : ℕ) → at d a a ≡ pos 0 → Tree list d m a s nx → member s e ≡ true → Trail s nx e
-  trail {s} {nx} e z (root p) h = alone (ℕ-discrete e a)
+  pub trail : {s : ℕ} {nx₀ nx : List ℕ} (e : ℕ) → at d a a ≡ pos 0 → Marks list d m a (putIn 0 a) nx₀ s nx → member s e ≡ true → Trail s nx e
+  trail {s} {nx = nx} e z (same p _) h = alone (ℕ-discrete e a)
     where
       alone : Dec (e ≡ a) → Trail s nx e
       alone (yes q) = subst (λ (y : ℕ). Trail s nx y) (sym q) (begin s nx z (ap (member s) (sym q) ∙ h))
       alone (no n) = absurd (not-both h (ap (λ (x : ℕ). member x e) p ∙ one-other a e n))
-  trail {s} {nx} e z (put s′ nx′ k t l i y o g p q) h =
+  trail e z (more s nx k t l i y o g p q) h =
       subst₂ (λ (x : ℕ) (n : List ℕ). Trail x n e) (sym p) (sym q)
-      (found (ℕ-discrete e (boundAt list k .start)) (λ f. trail f z t) (ap (λ (x : ℕ). member x e) (sym p) ∙ h))
+      (found (ℕ-discrete e u) (λ f. trail f z t) (ap (λ (x : ℕ). member x e) (sym p) ∙ h))
     where
       u : ℕ
       u = boundAt list k .start
 
-      found : Dec (e ≡ u) → ((f : ℕ) → member s′ f ≡ true → Trail s′ nx′ f) → member (putIn s′ u) e ≡ true → Trail (putIn s′ u) (with-note nx′ k) e
-      found (yes r) rest b = subst (λ (x : ℕ). Trail (putIn s′ u) (with-note nx′ k) x) (sym r) (extend s′ nx′ k l i y (tree-root list d m a t) g (rest (boundAt list k .end) o))
-      found (no n) rest b = keep s′ nx′ u (boundAt list k .end) (boundAt list k .code) e y (rest e (sym (put-other s′ u e n) ∙ b))
+      found : Dec (e ≡ u) → ((f : ℕ) → member s f ≡ true → Trail s nx f) → member (putIn s u) e ≡ true → Trail (putIn s u) (with-note nx k) e
+      found (yes r) rest b =
+          subst (λ (x : ℕ). Trail (putIn s u) (with-note nx k) x) (sym r)
+          (extend s nx k l i y (marks-keep list d m a a t (one-member a)) g (rest (boundAt list k .end) o))
+      found (no n) rest b = keep s nx u (boundAt list k .end) (boundAt list k .code) e y (rest e (sym (put-other s u e n) ∙ b))

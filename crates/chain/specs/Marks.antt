@@ -3,7 +3,7 @@
 use mathlib.Core.Path.{_≡_}
 use mathlib.Core.Bool.{Bool, true, false}
 use mathlib.Core.List.{List, [], _∷_, List·Memᴰ}
-use Prim.Native.Nat.{ℕ, zero, suc, _+_, _*_, _≤_, _<_}
+use Prim.Native.Nat.{ℕ, zero, suc, _+_, _*_, _/_, _≤_, _<_}
 use lib.Dec.{T}
 use lib.ListN.{length, getD, set}
 use lib.IntN.{ℤ}
@@ -67,34 +67,30 @@ LookAt list k d a s nx r nx′ = Look d a (boundAt list k .start) (boundAt list 
 
 -- ---- all bounds
 
--- s with more members
-pub data Grow (s : ℕ) : ℕ → Type 0 where
-  same : {r : ℕ} → r ≡ s → Grow s r
-  more : {r : ℕ} (t e : ℕ) → Grow s t → member t e ≡ false → r ≡ putIn t e → Grow s r
+-- an entry of the notes, entry k that of event k / 2, is as before where that event is marked as before
+pub record Untouched (s : ℕ) (nx : List ℕ) (r : ℕ) (nx′ : List ℕ) : Type 0 where
+  pub entry : (k : ℕ) → member r (k / 2) ≡ member s (k / 2) → getD nx′ k 0 ≡ getD nx k 0
 
 module _ (list : List Entry) (d : List ℤ) (m a : ℕ) where
-  -- events marked one by one, from a on
-  pub data Tree : ℕ → List ℕ → Type 0 where
-    root : {s : ℕ} {nx : List ℕ} → s ≡ putIn 0 a → Tree s nx
-    put : {r : ℕ} {nx′ : List ℕ} (s : ℕ) (nx : List ℕ) (k : ℕ) → Tree s nx → k < m → 2 * boundAt list k .start + 1 < length nx
-        → member s (boundAt list k .start) ≡ false → member s (boundAt list k .end) ≡ true → TightAt list d a k
-        → r ≡ putIn s (boundAt list k .start) → nx′ ≡ note nx (boundAt list k .start) (boundAt list k .end) (boundAt list k .code) → Tree r nx′
-
-  pub record Marked (s : ℕ) (nx : List ℕ) : Type 0 where
-    pub tree : Tree s nx
-    pub notes : Notes nx
+  -- from the marked events s with the notes nx, events marked one by one: each the start of a tight bound to a marked event, noted there
+  pub data Marks (s : ℕ) (nx : List ℕ) : ℕ → List ℕ → Type 0 where
+    same : {r : ℕ} {nx′ : List ℕ} → r ≡ s → nx′ ≡ nx → Marks s nx r nx′
+    more : {r : ℕ} {nx′ : List ℕ} (t : ℕ) (nt : List ℕ) (k : ℕ) → Marks s nx t nt → k < m → 2 * boundAt list k .start + 1 < length nt
+        → member t (boundAt list k .start) ≡ false → member t (boundAt list k .end) ≡ true → TightAt list d a k
+        → r ≡ putIn t (boundAt list k .start) → nx′ ≡ note nt (boundAt list k .start) (boundAt list k .end) (boundAt list k .code) → Marks s nx r nx′
 
   -- what may be scanned, and what is true after it
-  pub record Scanning (s : ℕ) (nx : List ℕ) : Type 0 where
+  pub record Scanning (nx : List ℕ) : Type 0 where
     pub n : ℕ
     pub given : Given list n m
     pub table : Table d n
     pub to : a < n
-    pub marked : Marked s nx
+    pub notes : Notes nx
 
-  pub record Scanned (s r : ℕ) (nx : List ℕ) : Type 0 where
-    pub marked : Marked r nx
-    pub grew : Grow s r
+  pub record Scanned (s : ℕ) (nx : List ℕ) (r : ℕ) (nx′ : List ℕ) : Type 0 where
+    pub marks : Marks s nx r nx′
+    pub notes : Notes nx′
+    pub untouched : Untouched s nx r nx′
     pub all : (k : ℕ) → k < m → TightAt list d a k → member s (boundAt list k .end) ≡ true → member r (boundAt list k .start) ≡ true
 
   -- marking from a backwards until b is marked
@@ -107,8 +103,10 @@ module _ (list : List Entry) (d : List ℤ) (m a : ℕ) where
     pub lead : Lead list d m a b
     pub notes : Notes nx
 
-  pub record Reached (b r : ℕ) (nx : List ℕ) : Type 0 where
-    pub marked : Marked r nx
+  pub record Reached (b : ℕ) (nx : List ℕ) (r : ℕ) (nx′ : List ℕ) : Type 0 where
+    pub marks : Marks (putIn 0 a) nx r nx′
+    pub notes : Notes nx′
+    pub untouched : Untouched (putIn 0 a) nx r nx′
     pub reached : member r b ≡ true
 
 -- ---- following the notes

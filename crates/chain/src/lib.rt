@@ -92,8 +92,8 @@ fn scan(
     from: eventset::EventSet,
     notes: &mut [u16],
 ) -> eventset::EventSet
-    requires { ⌜ Scanning (now list) (now d) m a (bitsOf from) (now notes) ⌝ }
-    ensures { λ r. ⌜ Scanned (now (list .entry)) (now (d .entry)) m a (bitsOf from) (bitsOf r) (now (notes .exit)) ⌝ }
+    requires { ⌜ Scanning (now list) (now d) m a (now notes) ⌝ }
+    ensures { λ r. ⌜ Scanned (now (list .entry)) (now (d .entry)) m a (bitsOf from) (now (notes .entry)) (bitsOf r) (now (notes .exit)) ⌝ }
 {
     let mut seen = from;
     let mut k = 0;
@@ -113,8 +113,8 @@ fn scan_listed(
     from: eventset::EventSet,
     notes: &mut [u16],
 ) -> eventset::EventSet
-    requires { ⌜ Scanning list (now d) m a (bitsOf from) (now notes) ⌝ }
-    ensures { λ r. ⌜ Scanned list (now (d .entry)) m a (bitsOf from) (bitsOf r) (now (notes .exit)) ⌝ }
+    requires { ⌜ Scanning list (now d) m a (now notes) ⌝ }
+    ensures { λ r. ⌜ Scanned list (now (d .entry)) m a (bitsOf from) (now (notes .entry)) (bitsOf r) (now (notes .exit)) ⌝ }
 {
     scan(&list, m, d, a, from, notes)
 }
@@ -129,7 +129,7 @@ fn mark(
     notes: &mut [u16],
 ) -> eventset::EventSet
     requires { ⌜ Marking list (now d) m a b (now notes) ⌝ }
-    ensures { λ r. ⌜ Reached list (now (d .entry)) m a b (bitsOf r) (now (notes .exit)) ⌝ }
+    ensures { λ r. ⌜ Reached list (now (d .entry)) m a b (now (notes .entry)) (bitsOf r) (now (notes .exit)) ⌝ }
 {
     let mut seen = eventset::put(eventset::empty(), a);
     while !eventset::has(seen, b) {

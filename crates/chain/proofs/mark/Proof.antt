@@ -6,13 +6,14 @@ use native.Mathlib.Omega.{arith}
 use lib.ListN.{length}
 use lib.Count.{ones, ones-le}
 use Rattle.eventset.specs.Sets.{WIDTH, bitsOf, putIn}
-use Rattle.chain.specs.Marks.{Marked, root}
-use Rattle.chain.proofs.Marks.{tree-root, progress}
+use Rattle.eventset.proofs.Laws.{one-member}
+use Rattle.chain.specs.Marks.{Notes, Marks, same}
+use Rattle.chain.proofs.Marks.{marks-keep, marks-then, marks-untouched, progress}
 use Rattle.chain.proofs.mark.Statement.{statement}
 use Rattle.chain.proofs.mark.Tie as tie
 
 abbrev Inv-loop : tie.InvT-loop
-Inv-loop list m d a b notes₀ seen₀ notes seen = Marked list d m a (bitsOf seen) notes × (length notes ≡ length notes₀)
+Inv-loop list m d a b notes₀ seen₀ notes seen = Marks list d m a (putIn 0 a) notes₀ (bitsOf seen) notes × Notes notes × (length notes ≡ length notes₀)
 
 abbrev μ-loop : tie.MeasureT-loop
 μ-loop list m d a b notes₀ seen₀ notes seen = WIDTH - ones (bitsOf seen)
@@ -25,8 +26,8 @@ put-requires c κs = let p = c .before .before .pre in omega (arith, p .to, p .t
 
 loop-holds : tie.Need-loop-holds Inv-loop μ-loop
 loop-holds c =
-    let p = c .before .before .before .pre in
-    (record { tree = root (c .put .ensures ∙ ap (λ (x : ℕ). putIn x (c .before .before .before .args .a)) (c .before .empty .ensures)); notes = p .notes }, refl)
+    let s = c .before .before .before in
+    (same (c .put .ensures ∙ ap (λ (x : ℕ). putIn x (s .args .a)) (c .before .empty .ensures)) refl, s .pre .notes, refl)
 
 has-requires : tie.Need-has-requires Inv-loop μ-loop
 has-requires c κs = let p = c .before .before .before .before .pre in omega (arith, p .from, p .table .events)
@@ -34,7 +35,7 @@ has-requires c κs = let p = c .before .before .before .before .pre in omega (ar
 scan-listed-requires : tie.Need-scan-listed-requires Inv-loop μ-loop
 scan-listed-requires c κs =
     let p = c .before .before .before .before .before .before .before .pre in
-    record { n = p .n; given = p .given; table = p .table; to = p .to; marked = c .before .before .before .loop .inv .0 }
+    record { n = p .n; given = p .given; table = p .table; to = p .to; notes = c .before .before .before .loop .inv .1 }
 
 loop-less : tie.Need-loop-less Inv-loop μ-loop
 loop-less c =
@@ -45,20 +46,23 @@ loop-less c =
     -- `.ok` has the range of the set's number
     omega (
       arith,
-      progress _ _ _ _ _ _ _ _ (r .ensures) (p .lead) (tree-root _ _ _ _ (h .inv .0 .tree)) (sym (q .before .has .ensures) ∙ not-true _ (q .if1 .taken)),
+      progress _ _ _ _ _ (r .ensures) (p .lead) (marks-keep _ _ _ _ _ (h .inv .0) (one-member _)) (sym (q .before .has .ensures) ∙ not-true _ (q .if1 .taken)),
       ones-le WIDTH (bitsOf (r .result)) (r .ok .1 .1 .0 .1),
     )
 
 loop-again : tie.Need-loop-again Inv-loop μ-loop
 loop-again c =
     let h = c .before .before .before .before .before .before .loop in
-    (c .before .before .scan-listed .ensures .marked, c .before .before .scan-listed .kept .1 .1 .1 .1 .1 .0 ∙ h .inv .1)
+    let r = c .before .before .scan-listed in
+    (marks-then _ _ _ _ (h .inv .0) (r .ensures .marks), r .ensures .notes, r .kept .1 .1 .1 .1 .1 .0 ∙ h .inv .2)
 
 same-length : tie.Need-same-length Inv-loop μ-loop
-same-length c = c .before .before .loop .inv .1
+same-length c = c .before .before .loop .inv .2
 
 returns : tie.Need-returns Inv-loop μ-loop
-returns c = record { marked = c .before .before .loop .inv .0; reached = sym (c .before .has .ensures) ∙ not-false _ (c .if1 .left) }
+returns c =
+    let h = c .before .before .loop .inv in
+    record { marks = h .0; notes = h .1; untouched = marks-untouched _ _ _ _ (h .0); reached = sym (c .before .has .ensures) ∙ not-false _ (c .if1 .left) }
 
 pub mark-spec : {M : Type 1} → statement M
 mark-spec =

@@ -135,7 +135,7 @@ module _ {M : Type 1} (𝓤 : URA M) (H : Heap 𝓤) (A : Atoms 𝓤) (W : Given
   Area nx l = MutSlice (named 2) κ₂ u16 .own (ref (z .name) nx) (sliceVal (z .ptr .0, z .ptr .1) l ∷ [])
 
   abbrev Asks : Type 0
-  Asks = Scanning bs (y .now) m a (bitsOf from) (z .now)
+  Asks = Scanning bs (y .now) m a (z .now)
 
   -- the turn's number, the marked set with its machine value, and the notes; t turns are left
   abbrev State : Type 0
@@ -155,14 +155,15 @@ module _ {M : Type 1} (𝓤 : URA M) (H : Heap 𝓤) (A : Atoms 𝓤) (W : Given
       → ent 𝓤 (sep 𝓤 (sep 𝓤 (A .lft κ₀ q₀) (sep 𝓤 (A .lft κ₁ q₁) (A .lft (ν ∷ []) fullShare))) (sep 𝓤 (sep 𝓤 (sem 𝓤 H A Own) (sem 𝓤 H A Far)) (sem 𝓤 H A (MutSlice (named 2) (ν ∷ []) u16 .own (ref δ nx) (t nx ∷ []))))) (Looks 𝓤 H A mem run .pre (to-look i r u nx ν δ))
   goes asks i r u nx ν δ small h is =
       qed W ((‵ (flft κ₀ q₀) ⊛ ‵ (flft κ₁ q₁) ⊛ ‵ (flft (ν ∷ []) fullShare)) ∷ (‵ Own ⊛ ‵ Far) ∷ ‵ (MutSlice (named 2) (ν ∷ []) u16 .own (ref δ nx) (t nx ∷ [])) ∷ []) ∵
-      says ! (omega (arith, asks .given .long, asks .given .inside), (record { n = asks .n; table = asks .table; fit = asks .given .fit i small; to = asks .to }, h .marked .notes .room)) $
+      says ! (omega (arith, asks .given .long, asks .given .inside), (record { n = asks .n; table = asks .table; fit = asks .given .fit i small; to = asks .to }, h .notes .room)) $
       split ! $ move ! (1 ∷ []) $ split ! $ nothing ! $ move ! (2 ∷ 0 ∷ []) $ join ! $ move ! (1 ∷ 0 ∷ []) $ join ! $ move ! (1 ∷ 0 ∷ []) $ join ! $ frame ! $ split ! $
       -- [the list; the distances; the notes]
       nothing ! $ move ! (3 ∷ 0 ∷ []) $ fjoin ! $ owned ! S.the-row (Is S.the-row) (LL.makes S.the-type S′.the-plain 𝓤 H A) r _ is $ fjoin ! $
       owned ! usize (Is usize) (uint-makes 𝓤 H A W w64) a _ (refl, a-fits) $ fjoin ! $ move ! (2 ∷ 0 ∷ []) $ fjoin ! $
       owned ! usize (Is usize) (uint-makes 𝓤 H A W w64) i _ (refl, omega (arith, small, m-fits)) $ fjoin ! $ move ! (1 ∷ 0 ∷ []) $ fjoin ! $ done !
 
-  exits : (r : EventSet) (u : Val) (nx : List ℕ) → Is S.the-row r (u ∷ []) → Scanned bs (y .now) m a (bitsOf from) (bitsOf r) nx → length nx ≡ length (z .now)
+  exits : (r : EventSet) (u : Val) (nx : List ℕ) → Is S.the-row r (u ∷ [])
+      → Scanned bs (y .now) m a (bitsOf from) (z .now) (bitsOf r) nx → length nx ≡ length (z .now)
       → ent 𝓤 (⋆ 𝓤 H A (‵ (Area nx (length nx)) ∷ ‵ (flft κ₂ q₂) ∷ ‵ (flft κ₀ q₀) ∷ ‵ (flft κ₁ q₁) ∷ ‵ Own ∷ ‵ Far ∷ [])) (Post u)
   exits r u nx is e l =
       qed W (‵ (Area nx (length nx)) ∷ ‵ (flft κ₂ q₂) ∷ ‵ (flft κ₀ q₀) ∷ ‵ (flft κ₁ q₁) ∷ ‵ Own ∷ ‵ Far ∷ []) ∵
@@ -269,7 +270,7 @@ module _ {M : Type 1} (𝓤 : URA M) (H : Heap 𝓤) (A : Atoms 𝓤) (W : Given
       one (suc n) (i, (r, (u, nx))) X (e, (h, is)) k = more i r u nx X (omega (arith, e)) h is (λ r′ u′ nx′ h′ is′. k n (i + 1, (r′, (u′, nx′))) (omega arith) (omega (arith, e), (h′, is′)))
 
       loops : ent 𝓤 (⋆ 𝓤 H A (At 0 (S′.lowered from) (z .now))) (Wp 𝓤 H (𝓣 .C) (𝓣 .Λ) E (loop′ body.turn-1) Left)
-      loops = searched 𝓤 H A W 𝓣 E body.turn-1 Left State AtState P one m (0, (from, (S′.lowered from, z .now))) (omega arith, (under-start bs (y .now) m a (bitsOf from) (z .now) (asks .marked), from-is))
+      loops = searched 𝓤 H A W 𝓣 E body.turn-1 Left State AtState P one m (0, (from, (S′.lowered from, z .now))) (omega arith, (under-start bs (y .now) m a (bitsOf from) (z .now) (asks .notes), from-is))
 
     walk : Room T.the-row (length bs) → Room i32 (length (y .now))
         → ent 𝓤 (onEntry 𝓤 H A scan.signature κs (q₀, (q₁, (q₂, tt))) (x, (m, (y, (a, (from, (z, tt)))))) at) (WpFn 𝓤 H (𝓣 .C) (𝓣 .Λ) code.function (s ∷ vint w64 m ∷ v ∷ vint w64 a ∷ S′.lowered from ∷ t (z .now) ∷ []) Post)

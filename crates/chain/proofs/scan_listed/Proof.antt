@@ -100,10 +100,10 @@ module _ {M : Type 1} (𝓤 : URA M) (H : Heap 𝓤) (A : Atoms 𝓤) (W : Given
   Far = ShrSlice (named 0) κ₁ i32 .own y (v ∷ [])
 
   abbrev Asks : Type 0
-  Asks = Scanning bs (y .now) m a (bitsOf from) (z .now)
+  Asks = Scanning bs (y .now) m a (z .now)
 
   abbrev Done : EventSet → List ℕ → Type 0
-  Done r zs = Scanned bs (y .now) m a (bitsOf from) (bitsOf r) zs
+  Done r zs = Scanned bs (y .now) m a (bitsOf from) (z .now) (bitsOf r) zs
 
   -- the local array at l, as a slice under the name δ, and its machine value
   abbrev ref : ℕ → GName → RefT (List Bound)

@@ -67,7 +67,7 @@ loop-again c =
       s .pre .notes .low (h .e),
       omega arith,
       simp length-set (h .inv .2),
-      put-step _ _ _ _ _ _ _ (i .loop-test .taken) (omega (arith, s .pre .room, i .before .before .count .ensures)) (h .inv .3),
+      put-step _ _ _ _ _ _ _ (omega arith) (omega (arith, s .pre .room, i .before .before .count .ensures)) (h .inv .3),
     )
 
 same-length : tie.Need-same-length Inv-loop μ-loop
