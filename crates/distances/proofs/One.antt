@@ -1,12 +1,12 @@
 -- Any two results that satisfy a promise of `distances` are equal: what is returned is told by the entries before, and each entry of the lent
 -- area is promised, as written or as kept.
-use Prim.Native.Nat.{ℕ, _+_, _-_, _<_, _≤_}
+use Prim.Native.Nat.{ℕ, _+_, _-_, _<_}
 use mathlib.Core.Path.{_≡_, refl, sym, _∙_}
 use mathlib.Core.Bool.{Bool, true, false}
 use mathlib.Core.List.{List}
 use native.Mathlib.Decide.{decLt}
 use native.Mathlib.Omega.{arith}
-use lib.ListN.{length, getD}
+use lib.ListN.{getD}
 use lib.Seq.{ext-getD}
 use lib.IntN.{ℤ}
 use Rattle.distances.specs.Matrix.{Started, Adding, Added, Narrowing, Cut, Narrowed}

@@ -91,6 +91,16 @@ kept-already {d = d} a b w c la lb e = record {
   rest = λ k l. refl;
 }
 
+-- a bound that is added to what was written is added to what stands there
+pub changed-more : {n : ℕ} {d d₁ d₂ : List ℤ} {D : ℕ → ℕ → ℤ} (a b : ℕ) (w : ℤ) → Changed n n d d₁ D → a < n → b < n →
+    Changed n n d₁ d₂ (added (at d₁) a b w) → Changed n n d d₂ (added D a b w)
+changed-more a b w r la lb s = record {
+  long = s .long ∙ r .long;
+  done = λ i j p q. s .done i j p q ∙ ap₂ minZ (r .done i j p q) (ap₂ _+ℤ_ (ap (λ (x : ℤ). x +ℤ w) (r .done i a p la)) (r .done b j lb q));
+  beside = λ i j p q l. s .beside i j p q l ∙ r .beside i j p q l;
+  rest = λ k l. s .rest k l ∙ r .rest k l;
+}
+
 -- an entry stands in a row and a column: two lists that are the same there are the same
 pub same-rows : {x y : List ℤ} → length x ≡ length y → ((i j : ℕ) → j < STRIDE → i * STRIDE + j < length x → at x i j ≡ at y i j) → x ≡ y
 same-rows {x} {y} long same = ext-getD (pos 0) x y long (λ k l. rw (apart k) at (same (k / STRIDE) (k % STRIDE) (omega arith) (omega arith)))
