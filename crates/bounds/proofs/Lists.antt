@@ -36,8 +36,8 @@ front-one {list} {m} k a f e h q = rw e (record {
   rest = λ i l. getD-set-other list m i a none (λ e. omega arith) ∙ f .rest i (omega arith);
 })
 
-pub front-two : {list : List Entry} {m : ℕ} {bs : List Bound} (k l n : ℕ) (a b : Entry) {β γ : Bound} → Front list m bs → k ≡ m → l ≡ m + 1 → n ≡ m + 2 → n ≤ MOST-BOUNDS →
-    boundOf a ≡ β → boundOf b ≡ γ → Front (set (set list k a) l b) n (bs ++ (β ∷ γ ∷ []))
+pub front-two : {list : List Entry} {m : ℕ} {bs : List Bound} (k l n : ℕ) (a b : Entry) {β γ : Bound} →
+    Front list m bs → k ≡ m → l ≡ m + 1 → n ≡ m + 2 → n ≤ MOST-BOUNDS → boundOf a ≡ β → boundOf b ≡ γ → Front (set (set list k a) l b) n (bs ++ (β ∷ γ ∷ []))
 front-two {list} {m} {bs} k l n a b {β} {γ} f ek el en h p q =
     let e : n ≡ suc (suc m) = omega arith in
     rw (e, ← append-assoc bs (β ∷ []) (γ ∷ [])) (front-one l b (front-one k a f ek (omega arith) p) (omega arith) (omega arith) q)
@@ -89,26 +89,33 @@ pub horizon-next : {list : List Entry} {H e : ℕ} (a b : Entry) → Horizon-so-
     boundOf a ≡ horizonUpper H e → boundOf b ≡ horizonLower e → Horizon-so-far (set (set list (2 * e - 2) a) (2 * e - 1) b) H (e + 1)
 horizon-next {list} {H} {e} a b f low room p q =
     let s : (e + 1) - 1 ≡ suc (e - 1) = omega arith in
-    rw (s, horizon-more H 1 (e - 1) e (omega arith)) (front-two (2 * e - 2) (2 * e - 1) (2 * suc (e - 1)) a b f (omega arith) (omega arith) (omega arith) (omega arith) p q)
+    rw (s, horizon-more H 1 (e - 1) e (omega arith))
+    (front-two (2 * e - 2) (2 * e - 1) (2 * suc (e - 1)) a b f (omega arith) (omega arith) (omega arith) (omega arith) p q)
 
 -- the bounds of the first k records behind the first `base`
 pub record RecordsSoFar (list₀ : List Entry) (base : ℕ) (rs : List M.Record) (list : List Entry) (k : ℕ) : Type 0 where
   pub front : Front list (base + 2 * k) (listed list₀ base ++ recordBounds 0 (take k rs))
 
-pub records-none : {list : List Entry} {base : ℕ} {rs : List M.Record} → length list ≡ MOST-BOUNDS → ((k : ℕ) → base ≤ k → getD list k none ≡ none) → RecordsSoFar list base rs list 0
+pub records-none : {list : List Entry} {base : ℕ} {rs : List M.Record} → length list ≡ MOST-BOUNDS →
+    ((k : ℕ) → base ≤ k → getD list k none ≡ none) → RecordsSoFar list base rs list 0
 records-none {list} {base} l f =
     let e : base + 0 ≡ base = omega arith in
     record { front = record { long = l; bounds = rw e (sym (append-nil (listed list base))); rest = λ k h. f k (omega arith) } }
 
-pub records-next : {list₀ list : List Entry} {base k : ℕ} {rs : List M.Record} (row : Row) → RecordsSoFar list₀ base rs list k → k < length rs → base + 2 * k + 2 ≤ MOST-BOUNDS →
-    row ≡ rowOf (row .first) (getD rs k M.nothing) → RecordsSoFar list₀ base rs (set (set list (base + 2 * k) (upperEntry k row)) (base + 2 * k + 1) (lowerEntry k row)) (k + 1)
-records-next {list₀} {list} {base} {k} {rs} row f l room at = record {
-  front =
-      rw (add-one k, records-more 0 rs k k (omega arith) l, ← append-assoc (listed list₀ base) (recordBounds 0 (take k rs)) (upper k (getD rs k M.nothing) ∷ lower k (getD rs k M.nothing) ∷ []))
-      (front-two (base + 2 * k) (base + 2 * k + 1) (base + 2 * suc k) (upperEntry k row) (lowerEntry k row) (f .front) refl refl (omega arith) (omega arith) (entry-upper (getD rs k M.nothing) k at) (entry-lower (getD rs k M.nothing) k at));
-}
+pub records-next : {list₀ list : List Entry} {base k : ℕ} {rs : List M.Record} (row : Row) →
+    RecordsSoFar list₀ base rs list k → k < length rs → base + 2 * k + 2 ≤ MOST-BOUNDS → row ≡ rowOf (row .first) (getD rs k M.nothing) →
+    RecordsSoFar list₀ base rs (set (set list (base + 2 * k) (upperEntry k row)) (base + 2 * k + 1) (lowerEntry k row)) (k + 1)
+records-next {list₀} {list} {base} {k} {rs} row f l room at =
+    let r = getD rs k M.nothing in
+    record {
+      front =
+          rw (add-one k, records-more 0 rs k k (omega arith) l, ← append-assoc (listed list₀ base) (recordBounds 0 (take k rs)) (upper k r ∷ lower k r ∷ []))
+          (front-two (base + 2 * k) (base + 2 * k + 1) (base + 2 * suc k) (upperEntry k row) (lowerEntry k row) (f .front) refl refl
+          (omega arith) (omega arith) (entry-upper r k at) (entry-lower r k at));
+    }
 
-pub records-all : {list₀ list : List Entry} {base k : ℕ} {rs : List M.Record} → RecordsSoFar list₀ base rs list k → k ≡ length rs → Front list (base + 2 * length rs) (listed list₀ base ++ recordBounds 0 rs)
+pub records-all : {list₀ list : List Entry} {base k : ℕ} {rs : List M.Record} → RecordsSoFar list₀ base rs list k → k ≡ length rs →
+    Front list (base + 2 * length rs) (listed list₀ base ++ recordBounds 0 rs)
 records-all {rs = rs} f e = rw (e, take-length rs) at (f .front)
 
 -- ---- both
