@@ -27,6 +27,7 @@ use Rattle.chain.proofs.Close.{listed-at}
 use Rattle.chain.proofs.Lead.{broken, found-chain}
 use Rattle.bounds.specs.Listed.{Listed, horizonCount, boundCount}
 use Rattle.bounds.specs.Tried.{Trying, Tried}
+use Rattle.bounds.proofs.Tries.{tried-net, tried-keeps, tried-walks, tried-clashes}
 use Rattle.bounds.proofs.Places.{listed-horizon, listed-given, given-place, place-given, listed-fit, bound-count}
 
 -- ---- the plan without its records
@@ -65,17 +66,17 @@ module _ {p : M.Plan} {list : List Entry} (w : WithoutFault p) (s : Listed p lis
 
     -- ---- all were added
     module _ {d′ : List ℤ} (a : Tried list (horizonCount p) (boundCount p) (p .events) d d′ (boundCount p)) where
-      all-net : Net (p .events) (p .horizon) d′
-      all-net = a .net start-net
+      pub all-net : Net (p .events) (p .horizon) d′
+      all-net = tried-net start-trying a start-net
 
       all-into : {t : Times} → Timetable p t → Keeps (p .events) (at d′) t
-      all-into {t} h = a .keeps t .1 (start-keeps .1 (timetable-horizon h), λ k l m. timetable-holds h (boundAt list k) (place-given s w k m))
+      all-into {t} h = tried-keeps start-trying a t .1 (start-keeps .1 (timetable-horizon h), λ k l m. timetable-holds h (boundAt list k) (place-given s w k m))
 
       -- a bound stands before the records' or among them
       held : {t : Times} → Keeps (p .events) (at d′) t → (k : ℕ) → k < boundCount p → Dec (k < horizonCount p) → Holds t (boundAt list k)
-      held {t} h k m (yes l) = timetable-holds (bare-timetable p (start-keeps .0 (a .keeps t .0 h .0))) (boundAt list k)
+      held {t} h k m (yes l) = timetable-holds (bare-timetable p (start-keeps .0 (tried-keeps start-trying a t .0 h .0))) (boundAt list k)
           (rw (listed-horizon s) at (listed-at list (horizonCount p) k l (omega (arith, s .long, bound-count s w))))
-      held {t} h k m (no l) = a .keeps t .0 h .1 k (omega arith) m
+      held {t} h k m (no l) = tried-keeps start-trying a t .0 h .1 k (omega arith) m
 
       all-from : {t : Times} → Keeps (p .events) (at d′) t → Timetable p t
       all-from {t} h = holds-timetable (h .origin)
@@ -86,7 +87,9 @@ module _ {p : M.Plan} {list : List Entry} (w : WithoutFault p) (s : Listed p lis
 
     -- ---- one could not be
     pub clash-broken : {d′ : List ℤ} {r : ℕ} → Tried list (horizonCount p) (boundCount p) (p .events) d d′ r → r < boundCount p → Broken list d′ (p .events) r
-    clash-broken a h = broken (a .net start-net) (listed-fit s w (omega arith)) (a .walks start-walks) (a .clash h)
+    clash-broken a h =
+        let asked = start-trying in
+        broken (tried-net asked a start-net) (listed-fit s w (omega arith)) (tried-walks asked a start-walks) (tried-clashes asked a h)
 
   -- ---- the chain that is found
   pub found-chained : {before after : List ℕ} {r k : ℕ} → r < boundCount p → Found (listed list (r + 1)) before k after → Chained p before k after

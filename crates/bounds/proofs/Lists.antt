@@ -5,8 +5,8 @@ use Prim.Native.Nat.{ℕ, zero, suc, _+_, _*_, _-_, _≤_, _<_}
 use native.Mathlib.Nat.{le-of-suc-le-suc, not-suc-le-zero}
 use native.Mathlib.Numerals.{add-one}
 use native.Mathlib.Omega.{arith}
-use lib.ListN.{length, getD, take, set, length-set}
-use lib.Seq.{take-suc-set, take-length}
+use lib.ListN.{length, getD, take, set, replicate, length-set, length-replicate}
+use lib.Seq.{take-suc-set, take-length, getD-set-other}
 use lib.IntN.{negℤ}
 use mir.Syntax.{w32}
 use mir.Val.{SFits}
@@ -19,7 +19,7 @@ use Rattle.plan.specs.declared.Record.{Record as Row}
 use Rattle.plan.specs.Held.{rowOf, blank}
 use Rattle.plan.proofs.Use.{held-row}
 use Rattle.chain.specs.declared.Bound.{Bound as Entry}
-use Rattle.chain.specs.Clash.{MOST-BOUNDS, boundOf, listed}
+use Rattle.chain.specs.Clash.{MOST-BOUNDS, boundOf, none, listed}
 use Rattle.bounds.specs.Listed.{Planned, Listed}
 use Rattle.bounds.specs.Entries.{upperEntry, lowerEntry, Front}
 
@@ -33,10 +33,11 @@ front-one : {list : List Entry} {m : ℕ} {bs : List Bound} (k : ℕ) (a : Entry
 front-one {list} {m} k a f e h q = rw e (record {
   long = length-set list m a ∙ f .long;
   bounds = rw (← q, ← (f .bounds)) (listed-set list m a (omega (arith, f .long)));
+  rest = λ i l. getD-set-other list m i a none (λ e. omega arith) ∙ f .rest i (omega arith);
 })
 
-pub front-two : {list : List Entry} {m : ℕ} {bs : List Bound} (k l n : ℕ) (a b : Entry) {β γ : Bound} → Front list m bs → k ≡ m → l ≡ m + 1 → n ≡ m + 2 → n ≤ MOST-BOUNDS →
-    boundOf a ≡ β → boundOf b ≡ γ → Front (set (set list k a) l b) n (bs ++ (β ∷ γ ∷ []))
+pub front-two : {list : List Entry} {m : ℕ} {bs : List Bound} (k l n : ℕ) (a b : Entry) {β γ : Bound} →
+    Front list m bs → k ≡ m → l ≡ m + 1 → n ≡ m + 2 → n ≤ MOST-BOUNDS → boundOf a ≡ β → boundOf b ≡ γ → Front (set (set list k a) l b) n (bs ++ (β ∷ γ ∷ []))
 front-two {list} {m} {bs} k l n a b {β} {γ} f ek el en h p q =
     let e : n ≡ suc (suc m) = omega arith in
     rw (e, ← append-assoc bs (β ∷ []) (γ ∷ [])) (front-one l b (front-one k a f ek (omega arith) p) (omega arith) (omega arith) q)
@@ -71,35 +72,50 @@ row-fits s k l = let m : k < length (s .plan .records) = omega (arith, s .holds 
 
 -- ---- the two loops
 
+-- a list of blank entries is blank everywhere
+blanks : (n k : ℕ) {a : Entry} → a ≡ none → getD (replicate n a) k none ≡ none
+blanks zero k e = refl
+blanks (suc n) zero e = e
+blanks (suc n) (suc k) e = blanks n k e
+
 -- the horizon's bounds before event e
 abbrev pub Horizon-so-far : List Entry → ℕ → ℕ → Type 0
 Horizon-so-far list H e = Front list (2 * (e - 1)) (horizonBounds H 1 (e - 1))
 
-pub horizon-none : {list : List Entry} (H : ℕ) → length list ≡ MOST-BOUNDS → Horizon-so-far list H 1
-horizon-none H l = record { long = l; bounds = refl }
+pub horizon-none : (H : ℕ) {a : Entry} → a ≡ none → Horizon-so-far (replicate MOST-BOUNDS a) H 1
+horizon-none H {a} e = record { long = length-replicate MOST-BOUNDS a; bounds = refl; rest = λ k h. blanks MOST-BOUNDS k e }
 
 pub horizon-next : {list : List Entry} {H e : ℕ} (a b : Entry) → Horizon-so-far list H e → 1 ≤ e → 2 * e ≤ MOST-BOUNDS →
     boundOf a ≡ horizonUpper H e → boundOf b ≡ horizonLower e → Horizon-so-far (set (set list (2 * e - 2) a) (2 * e - 1) b) H (e + 1)
 horizon-next {list} {H} {e} a b f low room p q =
     let s : (e + 1) - 1 ≡ suc (e - 1) = omega arith in
-    rw (s, horizon-more H 1 (e - 1) e (omega arith)) (front-two (2 * e - 2) (2 * e - 1) (2 * suc (e - 1)) a b f (omega arith) (omega arith) (omega arith) (omega arith) p q)
+    rw (s, horizon-more H 1 (e - 1) e (omega arith))
+    (front-two (2 * e - 2) (2 * e - 1) (2 * suc (e - 1)) a b f (omega arith) (omega arith) (omega arith) (omega arith) p q)
 
 -- the bounds of the first k records behind the first `base`
 pub record RecordsSoFar (list₀ : List Entry) (base : ℕ) (rs : List M.Record) (list : List Entry) (k : ℕ) : Type 0 where
   pub front : Front list (base + 2 * k) (listed list₀ base ++ recordBounds 0 (take k rs))
 
-pub records-none : {list : List Entry} {base : ℕ} {rs : List M.Record} → length list ≡ MOST-BOUNDS → RecordsSoFar list base rs list 0
-records-none {list} {base} l = let e : base + 0 ≡ base = omega arith in record { front = record { long = l; bounds = rw e (sym (append-nil (listed list base))) } }
+pub records-none : {list : List Entry} {base : ℕ} {rs : List M.Record} → length list ≡ MOST-BOUNDS →
+    ((k : ℕ) → base ≤ k → getD list k none ≡ none) → RecordsSoFar list base rs list 0
+records-none {list} {base} l f =
+    let e : base + 0 ≡ base = omega arith in
+    record { front = record { long = l; bounds = rw e (sym (append-nil (listed list base))); rest = λ k h. f k (omega arith) } }
 
-pub records-next : {list₀ list : List Entry} {base k : ℕ} {rs : List M.Record} (row : Row) → RecordsSoFar list₀ base rs list k → k < length rs → base + 2 * k + 2 ≤ MOST-BOUNDS →
-    row ≡ rowOf (row .first) (getD rs k M.nothing) → RecordsSoFar list₀ base rs (set (set list (base + 2 * k) (upperEntry k row)) (base + 2 * k + 1) (lowerEntry k row)) (k + 1)
-records-next {list₀} {list} {base} {k} {rs} row f l room at = record {
-  front =
-      rw (add-one k, records-more 0 rs k k (omega arith) l, ← append-assoc (listed list₀ base) (recordBounds 0 (take k rs)) (upper k (getD rs k M.nothing) ∷ lower k (getD rs k M.nothing) ∷ []))
-      (front-two (base + 2 * k) (base + 2 * k + 1) (base + 2 * suc k) (upperEntry k row) (lowerEntry k row) (f .front) refl refl (omega arith) (omega arith) (entry-upper (getD rs k M.nothing) k at) (entry-lower (getD rs k M.nothing) k at));
-}
+pub records-next : {list₀ list : List Entry} {base k : ℕ} {rs : List M.Record} (row : Row) →
+    RecordsSoFar list₀ base rs list k → k < length rs → base + 2 * k + 2 ≤ MOST-BOUNDS → row ≡ rowOf (row .first) (getD rs k M.nothing) →
+    RecordsSoFar list₀ base rs (set (set list (base + 2 * k) (upperEntry k row)) (base + 2 * k + 1) (lowerEntry k row)) (k + 1)
+records-next {list₀} {list} {base} {k} {rs} row f l room at =
+    let r = getD rs k M.nothing in
+    record {
+      front =
+          rw (add-one k, records-more 0 rs k k (omega arith) l, ← append-assoc (listed list₀ base) (recordBounds 0 (take k rs)) (upper k r ∷ lower k r ∷ []))
+          (front-two (base + 2 * k) (base + 2 * k + 1) (base + 2 * suc k) (upperEntry k row) (lowerEntry k row) (f .front) refl refl
+          (omega arith) (omega arith) (entry-upper r k at) (entry-lower r k at));
+    }
 
-pub records-all : {list₀ list : List Entry} {base k : ℕ} {rs : List M.Record} → RecordsSoFar list₀ base rs list k → k ≡ length rs → Front list (base + 2 * length rs) (listed list₀ base ++ recordBounds 0 rs)
+pub records-all : {list₀ list : List Entry} {base k : ℕ} {rs : List M.Record} → RecordsSoFar list₀ base rs list k → k ≡ length rs →
+    Front list (base + 2 * length rs) (listed list₀ base ++ recordBounds 0 rs)
 records-all {rs = rs} f e = rw (e, take-length rs) at (f .front)
 
 -- ---- both
@@ -108,4 +124,4 @@ pub both-listed : {p : M.Plan} {n H : ℕ} {list list′ : List Entry} → n ≡
     Front list′ (2 * (n - 1) + 2 * length (p .records)) (listed list (2 * (n - 1)) ++ recordBounds 0 (p .records)) → Listed p list′
 both-listed {p} {list = list} en eH f g =
     let b = rw (en, eH) at (f .bounds) in
-    record { long = g .long; all = rw (b) at (rw en at (g .bounds)) }
+    record { long = g .long; all = rw (b) at (rw en at (g .bounds)); rest = rw en at (g .rest) }

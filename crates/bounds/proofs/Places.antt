@@ -27,21 +27,31 @@ use Rattle.bounds.specs.Listed.{Listed, inOrder, horizonCount, boundCoun
 pub listed-less : (list : List Entry) {m n : ℕ} → m ≤ n → (b : Bound) → List·Memᴰ b (listed list m) → List·Memᴰ b (listed list n)
 listed-less list {m} {n} h b q =
     let e : n ≡ m + (n - m) = omega arith in
-    rw (e, take-add m (n - m) list, map-append boundOf (take m list) (take (n - m) (drop m list))) (Memᴰ·append-left (map boundOf (take (n - m) (drop m list))) q)
+    rw (e, take-add m (n - m) list, map-append boundOf (take m list) (take (n - m) (drop m list)))
+    (Memᴰ·append-left (map boundOf (take (n - m) (drop m list))) q)
 
 -- ---- the plan's bounds, with the horizon's first
 
 module _ (p : M.Plan) where
   pub in-order-given : (b : Bound) → List·Memᴰ b (inOrder p) → B.Given p b
-  in-order-given b m = ⊎-elim (λ q. Memᴰ·append-right (recordBounds 0 (p .records)) q) (λ q. Memᴰ·append-left (horizonBounds (p .horizon) 1 (p .events - 1)) q) (List·Memᴰ·append-cases (horizonBounds (p .horizon) 1 (p .events - 1)) m)
+  in-order-given b m =
+      let hs = horizonBounds (p .horizon) 1 (p .events - 1) in
+      let rs = recordBounds 0 (p .records) in
+      ⊎-elim (λ q. Memᴰ·append-right rs q) (λ q. Memᴰ·append-left hs q) (List·Memᴰ·append-cases hs m)
 
   pub given-in-order : (b : Bound) → B.Given p b → List·Memᴰ b (inOrder p)
-  given-in-order b m = ⊎-elim (λ q. Memᴰ·append-right (horizonBounds (p .horizon) 1 (p .events - 1)) q) (λ q. Memᴰ·append-left (recordBounds 0 (p .records)) q) (List·Memᴰ·append-cases (recordBounds 0 (p .records)) m)
+  given-in-order b m =
+      let hs = horizonBounds (p .horizon) 1 (p .events - 1) in
+      let rs = recordBounds 0 (p .records) in
+      ⊎-elim (λ q. Memᴰ·append-right hs q) (λ q. Memᴰ·append-left rs q) (List·Memᴰ·append-cases rs m)
 
   -- their weights
   pub bound-weight : WithoutFault p → (b : Bound) → B.Given p b → Within (negℤ (pos MOST-END)) (b .weight) (pos MOST-END)
   bound-weight w = each-bound p (λ b. Within (negℤ (pos MOST-END)) (b .weight) (pos MOST-END))
-      (λ k h. let g = w .each k h in (record { above = omega (ticks, g .lowest, g .ordered); below = g .highest }, record { above = omega (ticks, neg (M.low (M.recordAt p k)), g .ordered, g .highest); below = omega (ticks, g .lowest) }))
+      (λ k h. let g = w .each k h in (
+        record { above = omega (ticks, g .lowest, g .ordered); below = g .highest },
+        record { above = omega (ticks, neg (M.low (M.recordAt p k)), g .ordered, g .highest); below = omega (ticks, g .lowest) },
+      ))
       (λ e h l. (record { above = omega ticks; below = omega (ticks, w .near) }, record { above = omega ticks; below = omega ticks }))
 
 length-horizon : (H e m : ℕ) → length (horizonBounds H e m) ≡ 2 * m
@@ -60,7 +70,8 @@ module _ {p : M.Plan} {list : List Entry} (s : Listed p list) where
   pub listed-horizon : listed list (horizonCount p) ≡ horizonBounds (p .horizon) 1 (p .events - 1)
   listed-horizon =
       sym (ap (λ l. map boundOf l) (take-take (horizonCount p) (boundCount p) list (omega arith))) ∙ sym (map-take (horizonCount p) (take (boundCount p) list))
-      ∙ ap (λ l. take (horizonCount p) l) (s .all) ∙ take-at (horizonBounds (p .horizon) 1 (p .events - 1)) (recordBounds 0 (p .records)) (horizonCount p) (length-horizon (p .horizon) 1 (p .events - 1))
+      ∙ ap (λ l. take (horizonCount p) l) (s .all)
+      ∙ take-at (horizonBounds (p .horizon) 1 (p .events - 1)) (recordBounds 0 (p .records)) (horizonCount p) (length-horizon (p .horizon) 1 (p .events - 1))
 
   -- the bounds up to a place are bounds of the plan
   pub listed-given : {m : ℕ} → m ≤ boundCount p → (b : Bound) → List·Memᴰ b (listed list m) → B.Given p b
@@ -79,7 +90,10 @@ module _ {p : M.Plan} {list : List Entry} (s : Listed p list) where
     place-given k h = listed-given (le-refl (boundCount p)) (boundAt list k) (listed-at list (boundCount p) k h (omega (arith, s .long, bound-count)))
 
     pub place-fit : (k : ℕ) → k < boundCount p → Fit (p .events) (boundAt list k .start) (boundAt list k .end) (boundAt list k .weight)
-    place-fit k h = let g = place-given k h in let l = bound-placed p w (boundAt list k) g in record { start = l .starts; end = l .ends; weight = bound-weight p w (boundAt list k) g }
+    place-fit k h =
+        let g = place-given k h in
+        let l = bound-placed p w (boundAt list k) g in
+        record { start = l .starts; end = l .ends; weight = bound-weight p w (boundAt list k) g }
 
     pub listed-fit : {m : ℕ} → m ≤ boundCount p → Given list (p .events) m
     listed-fit h = record { long = s .long; inside = omega (arith, bound-count); fit = λ k l. place-fit k (omega arith) }

@@ -2,13 +2,13 @@
 use mathlib.Core.Path.{_≡_}
 use mathlib.Core.List.{List}
 use Prim.Native.Nat.{ℕ, _+_, _*_, _≤_}
-use lib.ListN.{length}
+use lib.ListN.{length, getD}
 use lib.IntN.{negℤ}
 use Rattle.meaning.specs.Bounds.{Bound}
 use Rattle.plan.specs.declared.Plan.{Plan}
 use Rattle.plan.specs.declared.Record.{Record}
 use Rattle.chain.specs.declared.Bound.{Bound as Entry}
-use Rattle.chain.specs.Clash.{MOST-BOUNDS, listed}
+use Rattle.chain.specs.Clash.{MOST-BOUNDS, none, listed}
 use Rattle.bounds.specs.Listed.{Planned}
 
 -- the entries of record k
@@ -18,13 +18,15 @@ upperEntry k r = record { start = r .a; «end» = r .b; code = 2 * k; weight = r
 abbrev pub lowerEntry : ℕ → Record → Entry
 lowerEntry k r = record { start = r .b; «end» = r .a; code = 2 * k + 1; weight = negℤ (r .lo) }
 
--- the first m entries of a full list are the bounds bs
+-- the first m entries of a full list are the bounds bs, and nothing stands past them
 pub record Front (list : List Entry) (m : ℕ) (bs : List Bound) : Type 0 where
   pub long : length list ≡ MOST-BOUNDS
   pub bounds : listed list m ≡ bs
+  pub rest : (k : ℕ) → m ≤ k → getD list k none ≡ none
 
--- behind the first `base` there is room for two bounds of each record
+-- behind the first `base` nothing stands, and there is room for two bounds of each record
 pub record Appending (list : List Entry) (base : ℕ) (h : Plan) : Type 0 where
   pub long : length list ≡ MOST-BOUNDS
   pub planned : Planned h
   pub room : base + 2 * h .count ≤ MOST-BOUNDS
+  pub rest : (k : ℕ) → base ≤ k → getD list k none ≡ none

@@ -1,15 +1,15 @@
 -- The plan's bounds in one list: the horizon's first, then those of the records.
 use mathlib.Core.Path.{_≡_}
 use mathlib.Core.List.{List, _++_}
-use Prim.Native.Nat.{ℕ, _+_, _*_, _-_}
-use lib.ListN.{length}
+use Prim.Native.Nat.{ℕ, _+_, _*_, _-_, _≤_}
+use lib.ListN.{length, getD}
 use Rattle.meaning.specs.Plan as M
 use Rattle.meaning.specs.Bounds.{Bound, horizonBounds, recordBounds}
 use Rattle.meaning.specs.Faultless.{WithoutFault}
 use Rattle.plan.specs.declared.Plan.{Plan}
 use Rattle.plan.specs.Held.{Holds}
 use Rattle.chain.specs.declared.Bound.{Bound as Entry}
-use Rattle.chain.specs.Clash.{MOST-BOUNDS, listed}
+use Rattle.chain.specs.Clash.{MOST-BOUNDS, none, listed}
 
 -- the struct holds a plan without fault
 pub record Planned (h : Plan) : Type 0 where
@@ -30,3 +30,5 @@ boundCount p = horizonCount p + 2 * length (p .records)
 pub record Listed (p : M.Plan) (list : List Entry) : Type 0 where
   pub long : length list ≡ MOST-BOUNDS
   pub all : listed list (boundCount p) ≡ inOrder p
+  -- nothing stands past the last bound
+  pub rest : (k : ℕ) → boundCount p ≤ k → getD list k none ≡ none

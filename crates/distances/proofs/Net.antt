@@ -9,7 +9,7 @@ use lib.IntN.{ℤ, pos, negℤ, _+ℤ_, _-ℤ_}
 use lib.Signed.{leZ, _≤ℤ_}
 use Rattle.ticks.proofs.Ticks.{ticks, neg, sum}
 use Rattle.meaning.specs.Plan.{Within, MOST-END, MOST-HORIZON}
-use Rattle.meaning.specs.Distances.{added, Closed, Keeps, Adds, horizonOnly}
+use Rattle.meaning.specs.Distances.{added, Closed, Keeps, Adds, Below, horizonOnly}
 use Rattle.meaning.proofs.Distances.{adds-closed, adds-below, adds-keeps, adds-old, adds-new, start-closed, start-below, start-means, means-start, same-set, Horizon}
 use Rattle.distances.specs.Matrix.{STRIDE, at, meeting, Net, Changed, Started, Adding, Added, Narrowing, Cut, Narrowed}
 
@@ -19,6 +19,9 @@ same-closed c f = record {
   diag = λ {i} p. f i i p p ∙ c .diag p;
   tri = λ {i} {j} {k} p q r. omega (ticks, c .tri p q r, f i k p r, f i j p q, f j k q r);
 }
+
+same-below : {n H : ℕ} {D E : ℕ → ℕ → ℤ} → Below n H D → ((i j : ℕ) → i < n → j < n → E i j ≡ D i j) → Below n H E
+same-below r f = record { hi = λ {i} {j} p q. omega (ticks, f i j p q, r .hi p q) }
 
 started-at : {n H : ℕ} {d : List ℤ} → Started H d → n ≤ STRIDE → (i j : ℕ) → i < n → j < n → at d i j ≡ horizonOnly H i j
 started-at s few i j p q = s .start i j (omega arith) (omega arith)
@@ -32,7 +35,7 @@ started-net {n} {H} {d} s some few near =
       events = few;
       near = near;
       closed = same-closed (start-closed n H) all;
-      below = record { hi = λ {i} {j} p q. omega (ticks, all i j p q, start-below n H .hi p q) };
+      below = same-below (start-below n H) all;
     }
 
 pub started-means : {n H : ℕ} {d : List ℤ} {t : ℕ → ℤ} → Started H d → 0 < n → n ≤ STRIDE → Keeps n (at d) t ↔ Horizon n H t
@@ -44,18 +47,22 @@ started-means {n} {H} {d} s some few =
 pub changed-adds : {n : ℕ} {d d′ : List ℤ} (a b : ℕ) (w : ℤ) → Changed n n d d′ (added (at d) a b w) → Adds n a b w (at d) (at d′)
 changed-adds a b w r = record { at = λ {i} {j} p q. r .done i j p q }
 
+-- closed distances with no entry above H, written over such a matrix, give such a matrix
+pub written-net : {n H : ℕ} {d d′ : List ℤ} {D : ℕ → ℕ → ℤ} → Net n H d → Changed n n d d′ D → Closed n D → Below n H D → Net n H d′
+written-net net r c l = record {
+  size = r .long ∙ net .size;
+  some = net .some;
+  events = net .events;
+  near = net .near;
+  closed = same-closed c (r .done);
+  below = same-below l (r .done);
+}
+
 pub changed-net : {n H : ℕ} {d d′ : List ℤ} (a b : ℕ) (w : ℤ) → Net n H d → a < n → b < n → pos 0 ≤ℤ (at d b a +ℤ w) →
     Changed n n d d′ (added (at d) a b w) → Net n H d′
-changed-net a b w net la lb ok r =
-    let e = changed-adds a b w r in
-    record {
-      size = r .long ∙ net .size;
-      some = net .some;
-      events = net .events;
-      near = net .near;
-      closed = adds-closed (net .closed) la lb e ok;
-      below = adds-below (net .closed) la lb e (net .below);
-    }
+changed-net {n} {d = d} a b w net la lb ok r =
+    let e : Adds n a b w (at d) (added (at d) a b w) = record { at = λ p q. refl } in
+    written-net net r (adds-closed (net .closed) la lb e ok) (adds-below (net .closed) la lb e (net .below))
 
 module _ {n a b : ℕ} {w : ℤ} {d d′ : List ℤ} {r : Bool} (asked : Adding n a b w d) (h : Added n a b w d d′ r) where
   pub added-means : r ≡ true → (t : ℕ → ℤ) → Keeps n (at d′) t ↔ (Keeps n (at d) t × (t b ≤ℤ (t a +ℤ w)))

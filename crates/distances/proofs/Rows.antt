@@ -91,20 +91,31 @@ kept-already {d = d} a b w c la lb e = record {
   rest = λ k l. refl;
 }
 
--- an entry stands in a row and a column: what was written and what was kept leave one result only
-pub one-result : {n : ℕ} {d d₁ d₂ : List ℤ} {f : ℕ → ℕ → ℤ} → length d ≡ ENTRIES → n ≤ STRIDE → Changed n n d d₁ f → Changed n n d d₂ f → d₁ ≡ d₂
-one-result {n} {d} {d₁} {d₂} size few r s = ext-getD (pos 0) d₁ d₂ (r .long ∙ sym (s .long)) (λ k l. same k)
+-- a bound that is added to what was written is added to what stands there
+pub changed-more : {n : ℕ} {d d₁ d₂ : List ℤ} {D : ℕ → ℕ → ℤ} (a b : ℕ) (w : ℤ) → Changed n n d d₁ D → a < n → b < n →
+    Changed n n d₁ d₂ (added (at d₁) a b w) → Changed n n d d₂ (added D a b w)
+changed-more a b w r la lb s = record {
+  long = s .long ∙ r .long;
+  done = λ i j p q. s .done i j p q ∙ ap₂ minZ (r .done i j p q) (ap₂ _+ℤ_ (ap (λ (x : ℤ). x +ℤ w) (r .done i a p la)) (r .done b j lb q));
+  beside = λ i j p q l. s .beside i j p q l ∙ r .beside i j p q l;
+  rest = λ k l. s .rest k l ∙ r .rest k l;
+}
+
+-- an entry stands in a row and a column: two lists that are the same there are the same
+pub same-rows : {x y : List ℤ} → length x ≡ length y → ((i j : ℕ) → j < STRIDE → i * STRIDE + j < length x → at x i j ≡ at y i j) → x ≡ y
+same-rows {x} {y} long same = ext-getD (pos 0) x y long (λ k l. rw (apart k) at (same (k / STRIDE) (k % STRIDE) (omega arith) (omega arith)))
   where
     apart : (k : ℕ) → k / STRIDE * STRIDE + k % STRIDE ≡ k
     apart k = omega arith
 
+-- what was written and what was kept leave one result only
+pub one-result : {n : ℕ} {d d₁ d₂ : List ℤ} {f : ℕ → ℕ → ℤ} → length d ≡ ENTRIES → n ≤ STRIDE → Changed n n d d₁ f → Changed n n d d₂ f → d₁ ≡ d₂
+one-result {n} {d} {d₁} {d₂} size few r s = same-rows (r .long ∙ sym (s .long)) (λ i j l h. here i j l (decLt i n) (decLt j n))
+  where
     here : (i j : ℕ) → j < STRIDE → Dec (i < n) → Dec (j < n) → at d₁ i j ≡ at d₂ i j
     here i j l (yes p) (yes q) = r .done i j p q ∙ sym (s .done i j p q)
     here i j l (yes p) (no q) = r .beside i j p (omega arith) l ∙ sym (s .beside i j p (omega arith) l)
     here i j l (no p) q = r .rest (i * STRIDE + j) (omega arith) ∙ sym (s .rest (i * STRIDE + j) (omega arith))
-
-    same : (k : ℕ) → getD d₁ k (pos 0) ≡ getD d₂ k (pos 0)
-    same k = rw (apart k) at (here (k / STRIDE) (k % STRIDE) (omega arith) (decLt (k / STRIDE) n) (decLt (k % STRIDE) n))
 
 -- ---- what stands beside the entries in use
 

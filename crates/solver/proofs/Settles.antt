@@ -35,7 +35,7 @@ use Rattle.ladder.specs.Memory.{InMemory}
 use Rattle.solver.specs.Settled.{named, Settled, Solves}
 use Rattle.solver.specs.declared.Outcome.{Outcome}
 use Rattle.solver.specs.declared.Outcome.the-variants as Out
-use Rattle.bounds.proofs.Ends.{Chained, start-net, start-trying, all-stands, clash-broken, found-chained}
+use Rattle.bounds.proofs.Ends.{Chained, start-trying, all-net, all-stands, clash-broken, found-chained}
 
 -- ---- the outcome of a plan in memory
 
@@ -66,7 +66,7 @@ module _ {p : M.Plan} {h : Plan} {held : List ℕ} {list : List Entry} (m : InMe
         let e : r ≡ 2 * (p .events - 1) + 2 * length (p .records) = omega (arith, tried .high, rw (m .holds .events, m .holds .count) at l) in
         record {
           memory = m;
-          net = tried .net (start-net (m .faultless) s begun);
+          net = all-net (m .faultless) s begun (rw e at tried);
           stands = all-stands (m .faultless) s begun (rw e at tried);
         }
 

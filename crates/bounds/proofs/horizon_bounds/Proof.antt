@@ -16,7 +16,7 @@ nothing-requires : tie.Need-nothing-requires Inv-loop μ-loop
 nothing-requires c κs = tt
 
 loop-holds : tie.Need-loop-holds Inv-loop μ-loop
-loop-holds c = (omega arith, omega arith, horizon-none (c .before .args .h) refl)
+loop-holds c = (omega arith, omega arith, horizon-none (c .before .args .h) (c .nothing .ensures))
 
 horizon-upper-requires : tie.Need-horizon-upper-requires Inv-loop μ-loop
 horizon-upper-requires c κs = (omega arith, omega arith)

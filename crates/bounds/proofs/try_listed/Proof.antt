@@ -51,7 +51,7 @@ use Rattle.chain.proofs.Bound as T
 use Rattle.chain.proofs.Lent.{LentAgain, lends-again, comes-back}
 use Rattle.chain.proofs.Searched.{searched}
 use Rattle.bounds.specs.Tried.{Trying, Tried}
-use Rattle.bounds.proofs.Tries.{tried-none, adding-next, tried-more, tried-clash, tried-long, tried-all}
+use Rattle.bounds.proofs.Tries.{tried-none, adding-next, tried-more, tried-clash, tried-all}
 use Rattle.bounds.proofs.try_at as try-at
 use Rattle.bounds.proofs.try_at.Symbol as try-at-def
 use Rattle.bounds.proofs.try_at.Symbol.{name as #try-at}
@@ -145,8 +145,8 @@ module _ {M : Type 1} (𝓤 : URA M) (H : Heap 𝓤) (A : Atoms 𝓤) (W : Given
   exits : Asks → (i : ℕ) (d : List ℤ) → Tried entries first to n (y .now) d i → ent 𝓤 (⋆ 𝓤 H A (‵ (Matrix d d) ∷ ‵ (flft κ′ q′) ∷ ‵ (flft κ q) ∷ ‵ Own ∷ [])) (Post (vint w64 i))
   exits asks i d tried =
       qed W (‵ (Matrix d d) ∷ ‵ (flft κ′ q′) ∷ ‵ (flft κ q) ∷ ‵ Own ∷ []) ∵
-      suffices ! _ (ends-at 𝓤 H A try-listed.ended stayed (try-listed.clauses 𝓤 H A mem run) W ((κs, (q, (q′, tt)), tt, (x, (first, (to, (y, (n, tt))))), at), tt) (vint w64 i) i (tt, (tt, (tt, (d, (tt, tt))))) (tt, (tt, (tt, (tried-long asks tried, (tt, tt)))))) $ says ! tried $
-      rewrite ! 0 (λ (m : ℕ). ‵ (MutSlice (named 1) κ′ i32 .own (ref (y .name) d) (sliceVal (y .ptr .0, y .ptr .1) m ∷ []))) (tried-long asks tried) refl $
+      suffices ! _ (ends-at 𝓤 H A try-listed.ended stayed (try-listed.clauses 𝓤 H A mem run) W ((κs, (q, (q′, tt)), tt, (x, (first, (to, (y, (n, tt))))), at), tt) (vint w64 i) i (tt, (tt, (tt, (d, (tt, tt))))) (tt, (tt, (tt, (tried .changed .long, (tt, tt)))))) $ says ! tried $
+      rewrite ! 0 (λ (m : ℕ). ‵ (MutSlice (named 1) κ′ i32 .own (ref (y .name) d) (sliceVal (y .ptr .0, y .ptr .1) m ∷ []))) (tried .changed .long) refl $
       nothing ! $ move ! (2 ∷ 0 ∷ []) $ join ! $ move ! (2 ∷ 0 ∷ []) $ join ! $ frame ! $
       nothing ! $ owned ! usize (Is usize) (uint-makes 𝓤 H A W w64) n _ (refl, n-fits) $ fjoin ! $ move ! (1 ∷ 0 ∷ []) $ fjoin ! $ owned ! usize (Is usize) (uint-makes 𝓤 H A W w64) to _ (refl, to-fits) $ fjoin ! $ owned ! usize (Is usize) (uint-makes 𝓤 H A W w64) first _ (refl, first-fits) $ fjoin ! $ move ! (1 ∷ 0 ∷ []) $ fjoin ! $ frame ! $
       owned ! usize (Is usize) (uint-makes 𝓤 H A W w64) i _ (refl, omega (arith, tried .high, to-fits)) $ done !
@@ -230,7 +230,7 @@ module _ {M : Type 1} (𝓤 : URA M) (H : Heap 𝓤) (A : Atoms 𝓤) (W : Given
           next-fits = omega (arith, small, to-fits)
 
           room : Room i32 (length d)
-          room = rw (tried-long asks so-far) room′
+          room = rw (so-far .changed .long) room′
 
       -- the state of the loop, and what holds where u places are left
       abbrev Holds : ℕ → Turn → Type 0

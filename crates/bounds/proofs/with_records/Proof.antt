@@ -16,7 +16,7 @@ abbrev μ-loop : tie.MeasureT-loop
 μ-loop base h all₀ k₀ k-end all k = h .count - k
 
 loop-holds : tie.Need-loop-holds Inv-loop μ-loop
-loop-holds c = (omega arith, λ p s. records-none (c .pre .long))
+loop-holds c = (omega arith, λ p s. records-none (c .pre .long) (c .pre .rest))
 
 mul-r : tie.Need-mul-r Inv-loop μ-loop
 mul-r c = omega arith
