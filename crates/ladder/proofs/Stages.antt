@@ -26,6 +26,7 @@ use Rattle.plan.specs.Held.{levelsIn, rowOf, blank}
 use Rattle.plan.proofs.Use.{row-held}
 use Rattle.distances.specs.Matrix.{at, Net, Narrowing, Narrowed}
 use Rattle.distances.proofs.Net.{narrowed-means, narrowed-none}
+use Rattle.distances.proofs.Rows.{beside-then, narrowed-beside}
 use Rattle.ladder.specs.Memory.{InMemory}
 use Rattle.ladder.specs.Climbing.{Asking, WishAnswered, WishClimbed, RecordAsking, RecordClimbed, Stage, Grading, Graded}
 use Rattle.ladder.proofs.Asks.{narrowing}
@@ -53,7 +54,8 @@ module _ {n a b : ℕ} {lo hi : ℤ} {d d′ : List ℤ} {X : Times → Type 0} 
 
 -- ---- one record
 
-module _ {p : M.Plan} {g k : ℕ} {d : List ℤ} {before levels : List ℕ} (s : Stage p g k d before levels) (l : k < length (p .records)) (held : List ℕ) (first : ℕ) where
+module _ {p : M.Plan} {g k : ℕ} {old d : List ℤ} {before levels : List ℕ}
+    (s : Stage p g k old d before levels) (l : k < length (p .records)) (held : List ℕ) (first : ℕ) where
   wish-asking : {a b : ℕ} {lo : ℤ} {ls : List ℕ} → GoodRecord (p .events) (M.wish a b lo ls) → first + length ls ≤ length held → Asking (p .events) (rowOf first (M.wish a b lo ls)) held (suc g) d
   wish-asking q room = record {
     horizon = p .horizon;
@@ -86,17 +88,18 @@ module _ {p : M.Plan} {g k : ℕ} {d : List ℤ} {before levels : List ℕ} (s :
     at-most : getD (s .grades) (number p k) 0 ≤ g
     at-most = omega (arith, s .climbed .waiting (s .climbed .some) (s .climbed .left) (number p k) (omega arith) (wish-number (p .records) k l e))
 
-    not-asked : (getD levels (number p k) 0 ≡ suc g - 1 → ⊥) → Stage p g (suc k) d before levels
+    not-asked : (getD levels (number p k) 0 ≡ suc g - 1 → ⊥) → Stage p g (suc k) old d before levels
     not-asked f = record {
       grades = s .grades;
       climbed = climb-failed p (s .climbed) l e (omega (arith, at-most, grade-is, f));
       written = s .written;
       net = s .net;
       stands = s .stands;
+      beside = s .beside;
     }
 
     answered : {d′ : List ℤ} {levels′ : List ℕ} → slice first (first + length ls) held ≡ ls → first + length ls ≤ length held →
-        WishAnswered (p .events) (rowOf first (M.wish a b lo ls)) held (suc g) (number p k) d d′ levels levels′ → Stage p g (suc k) d′ before levels′
+        WishAnswered (p .events) (rowOf first (M.wish a b lo ls)) held (suc g) (number p k) d d′ levels levels′ → Stage p g (suc k) old d′ before levels′
     answered {d′} {levels′} same room r = go (r .answer) refl (rw same at (r .asked .run)) (r .asked .narrowed)
       where
         first′ : ℕ
@@ -108,7 +111,7 @@ module _ {p : M.Plan} {g k : ℕ} {d : List ℤ} {before levels : List ℕ} (s :
         asked : Narrowing (p .events) a b (lo +ℤ pos first′) (lo +ℤ pos past -ℤ pos 1) d
         asked = narrowing (wish-asking q room) (r .asked .run)
 
-        go : (t : Bool) → r .answer ≡ t → Run (suc g) ls first′ past → Narrowed (p .events) a b (lo +ℤ pos first′) (lo +ℤ pos past -ℤ pos 1) d d′ t → Stage p g (suc k) d′ before levels′
+        go : (t : Bool) → r .answer ≡ t → Run (suc g) ls first′ past → Narrowed (p .events) a b (lo +ℤ pos first′) (lo +ℤ pos past -ℤ pos 1) d d′ t → Stage p g (suc k) old d′ before levels′
         go true z run n =
             let held-to = narrowed-stands (s .stands) (s .net) asked n in
             let u = stands-earliest (s .net .some) held-to in
@@ -118,6 +121,7 @@ module _ {p : M.Plan} {g k : ℕ} {d : List ℤ} {before levels : List ℕ} (s :
               written = r .up z ∙ ap (λ v. set v (number p k) (suc g)) (s .written) ∙ over-set (s .grades) before (number p k) (suc g) here;
               net = n .net (s .net);
               stands = stands-same held-to (climb-within p (s .climbed) l e run (q .levelled .peaked) top);
+              beside = beside-then (s .beside) (narrowed-beside n);
             }
         go false z run n = rw (n .refused refl, r .stays z) (record {
           grades = s .grades;
@@ -125,21 +129,22 @@ module _ {p : M.Plan} {g k : ℕ} {d : List ℤ} {before levels : List ℕ} (s :
           written = s .written;
           net = s .net;
           stands = s .stands;
+          beside = s .beside;
         })
 
     wish-next : {d′ : List ℤ} {levels′ : List ℕ} → slice first (first + length ls) held ≡ ls → first + length ls ≤ length held →
-        WishClimbed (p .events) (rowOf first (M.wish a b lo ls)) held (suc g) (number p k) d d′ levels levels′ → Stage p g (suc k) d′ before levels′
+        WishClimbed (p .events) (rowOf first (M.wish a b lo ls)) held (suc g) (number p k) d d′ levels levels′ → Stage p g (suc k) old d′ before levels′
     wish-next {d′} {levels′} same room c = go (ℕ-discrete (getD levels (number p k) 0) (suc g - 1))
       where
-        go : Dec (getD levels (number p k) 0 ≡ suc g - 1) → Stage p g (suc k) d′ before levels′
+        go : Dec (getD levels (number p k) 0 ≡ suc g - 1) → Stage p g (suc k) old d′ before levels′
         go (yes i) = answered same room (c .climbing i)
         go (no i) = rw (c .stopped i .0, c .stopped i .1) (not-asked i)
 
   record-next : {d′ : List ℤ} {levels′ : List ℕ} {r : ℕ} → g < TOP-LEVEL → (m : M.Record) → recordAt p k ≡ m → GoodRecord (p .events) m → slice first (first + length (levelsIn m)) held ≡ levelsIn m →
-      first + length (levelsIn m) ≤ length held → RecordClimbed (p .events) (rowOf first m) held (suc g) (number p k) d d′ levels levels′ r → Stage p g (suc k) d′ before levels′ × (r ≡ number p (suc k))
+      first + length (levelsIn m) ≤ length held → RecordClimbed (p .events) (rowOf first m) held (suc g) (number p k) d d′ levels levels′ r → Stage p g (suc k) old d′ before levels′ × (r ≡ number p (suc k))
   record-next top (M.rule a b lo hi) e q same room c =
       let z = c .rule refl in
-      (rw (z .0, z .1) (record { grades = s .grades; climbed = climb-rule p (s .climbed) l e; written = s .written; net = s .net; stands = s .stands }), z .2 ∙ sym (next-rule (p .records) k l e))
+      (rw (z .0, z .1) (record { grades = s .grades; climbed = climb-rule p (s .climbed) l e; written = s .written; net = s .net; stands = s .stands; beside = s .beside }), z .2 ∙ sym (next-rule (p .records) k l e))
   record-next top (M.wish a b lo ls) e q same room c =
       let z = c .wish (q .levelled .some) in
       (wish-next e q top same room (z .0), z .1 ∙ omega (arith, next-wish (p .records) k l e))
@@ -150,7 +155,7 @@ pub record Upto (h : Plan) (held : List ℕ) (y k w : ℕ) (d₀ d : List ℤ) (
   pub most : k ≤ h .count
   pub size : length d ≡ length d₀
   pub long : length levels ≡ length levels₀
-  pub stage : {p : M.Plan} {g : ℕ} {before : List ℕ} → InMemory p h held → y ≡ suc g → Stage p g 0 d₀ before levels₀ → Stage p g k d before levels × (w ≡ number p k)
+  pub stage : {p : M.Plan} {g : ℕ} {old : List ℤ} {before : List ℕ} → InMemory p h held → y ≡ suc g → Stage p g 0 old d₀ before levels₀ → Stage p g k old d before levels × (w ≡ number p k)
 
 pub upto-none : {h : Plan} {held : List ℕ} {y : ℕ} {d : List ℤ} {levels : List ℕ} → Upto h held y 0 0 d d levels levels
 upto-none = record { most = omega arith; size = refl; long = refl; stage = λ o e s. (s, refl) }
@@ -175,7 +180,7 @@ module _ {h : Plan} {held : List ℕ} {y k w n : ℕ} {d₀ d : List ℤ} {level
   pub upto-next : {d′ : List ℤ} {levels′ : List ℕ} {r : ℕ} → RecordClimbed n (getD (h .records) k blank) held y w d d′ levels levels′ r → length d′ ≡ length d → length levels′ ≡ length levels → Upto h held y (k + 1) r d₀ d′ levels₀ levels′
   upto-next {d′} {levels′} {r} c size long = record { most = omega arith; size = size ∙ u .size; long = long ∙ u .long; stage = next }
     where
-      next : {p : M.Plan} {g : ℕ} {before : List ℕ} → InMemory p h held → y ≡ suc g → Stage p g 0 d₀ before levels₀ → Stage p g (k + 1) d′ before levels′ × (r ≡ number p (k + 1))
+      next : {p : M.Plan} {g : ℕ} {old : List ℤ} {before : List ℕ} → InMemory p h held → y ≡ suc g → Stage p g 0 old d₀ before levels₀ → Stage p g (k + 1) old d′ before levels′ × (r ≡ number p (k + 1))
       next {p} o e s₀ =
           let s = u .stage o e s₀ in
           let i : k < length (p .records) = omega (arith, o .holds .count) in
@@ -186,8 +191,8 @@ module _ {h : Plan} {held : List ℕ} {y k w n : ℕ} {d₀ d : List ℤ} {level
 pub upto-all : {h : Plan} {held : List ℕ} {y k w : ℕ} {d₀ d : List ℤ} {levels₀ levels : List ℕ} → Upto h held y k w d₀ d levels₀ levels → h .count ≤ k → Graded h held y d₀ d levels₀ levels
 upto-all {h} {held} {y} {k} {w} {d₀} {d} {levels₀} {levels} u l = record { graded = all }
   where
-    all : {p : M.Plan} {g : ℕ} {before : List ℕ} → InMemory p h held → y ≡ suc g → Stage p g 0 d₀ before levels₀ → Stage p y 0 d before levels
-    all {p} {g} {before} o e s₀ =
+    all : {p : M.Plan} {g : ℕ} {old : List ℤ} {before : List ℕ} → InMemory p h held → y ≡ suc g → Stage p g 0 old d₀ before levels₀ → Stage p y 0 old d before levels
+    all {p} {g} {old} {before} o e s₀ =
         let i : k ≡ length (p .records) = omega (arith, o .holds .count, u .most) in
-        let s : Stage p g (length (p .records)) d before levels = rw i at (u .stage o e s₀ .0) in
-        rw e (record { grades = s .grades; climbed = climb-next p (s .climbed); written = s .written; net = s .net; stands = s .stands })
+        let s : Stage p g (length (p .records)) old d before levels = rw i at (u .stage o e s₀ .0) in
+        rw e (record { grades = s .grades; climbed = climb-next p (s .climbed); written = s .written; net = s .net; stands = s .stands; beside = s .beside })
