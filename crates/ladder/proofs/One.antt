@@ -18,7 +18,8 @@ module _ {p : M.Plan} {d x y : List ℤ} {before u v : List ℕ} {q r : ℕ} (c 
 
   -- both matrices stand for the best timetables
   one-entry : (i j : ℕ) → i < p .events → j < p .events → at x i j ≡ at y i j
-  one-entry i j = same-matrix (c .stands .closed) (e .stands .closed) (c .net .some) (λ t k. e .stands .into (c .stands .from k)) (λ t k. c .stands .into (e .stands .from k))
+  one-entry i j = same-matrix (c .stands .closed) (e .stands .closed) (c .net .some)
+      (λ t k. e .stands .into (c .stands .from k)) (λ t k. c .stands .into (e .stands .from k))
 
   pub one-climb : (q ≡ r) × (x ≡ y) × (u ≡ v)
   one-climb = (

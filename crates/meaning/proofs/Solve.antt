@@ -66,8 +66,8 @@ keeps-agree : {n : ℕ} {D : Distances} {t : Times} (u : Times) → 0 < n → Ke
 keeps-agree u z h f = record { origin = f 0 z ∙ h .origin; kept = λ {i} {j} p q. omega (ticks, h .kept p q, f i p, f j q) }
 
 -- the least times of a matrix that stands for the best timetables are the outcome, with the levels that these have
-pub earliest-solved : {p : Plan} {g : List ℕ} {D : Distances} → 0 < p .events → Stands (p .events) D (BestTimes p) → ((t : Times) → BestTimes p t → levels p t ≡ g) →
-    (ts : List ℤ) → length ts ≡ p .events → ((e : ℕ) → e < p .events → at ts e ≡ earliest D e) → Solved p ts g
+pub earliest-solved : {p : Plan} {g : List ℕ} {D : Distances} → 0 < p .events → Stands (p .events) D (BestTimes p) →
+    ((t : Times) → BestTimes p t → levels p t ≡ g) → (ts : List ℤ) → length ts ≡ p .events → ((e : ℕ) → e < p .events → at ts e ≡ earliest D e) → Solved p ts g
 earliest-solved {p} z s levelled ts n f =
     let best : BestTimes p (at ts) = s .from (keeps-agree (at ts) z (earliest-holds (s .closed) z) f) in
     record {
@@ -134,9 +134,10 @@ module _ {p : Plan} (w : WithoutFault p) where
       let z : Stage 0 0 = record { grades = replicate (wishes p) 0; climbed = climb-start p (earliest D) (stands-earliest (w .some) s); matrix = D; stands = stands-same s (all-left p) } in
       let l : Stage TOP-LEVEL 0 = all-grades z TOP-LEVEL (omega arith) in
       let t : Times = earliest (l .matrix) in
-      let best : Stands (p .events) (l .matrix) (BestTimes p) = stands-same (l .stands) (climb-best p (l .climbed)) in
       let ts : List ℤ = timesFrom t 0 (p .events) in
-      (ts, l .grades, earliest-solved (w .some) best (climb-levels p w (l .climbed)) ts (times-count t 0 (p .events)) (λ e h. times-at t 0 (p .events) e h ∙ ap t (omega arith)))
+      let best : Stands (p .events) (l .matrix) (BestTimes p) = stands-same (l .stands) (climb-best p (l .climbed)) in
+      let same : (e : ℕ) → e < p .events → at ts e ≡ t e = λ e h. times-at t 0 (p .events) e h ∙ ap t (omega arith) in
+      (ts, l .grades, earliest-solved (w .some) best (climb-levels p w (l .climbed)) ts (times-count t 0 (p .events)) same)
 
 -- where there is a timetable there are best ones, and one of them has the least time of every event
 pub best-exists : {p : Plan} → WithoutFault p → {t : Times} → Timetable p t → (ts : List ℤ) × (ls : List ℕ) × Solved p ts ls
