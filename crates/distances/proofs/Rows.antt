@@ -1,7 +1,7 @@
 -- Rows of STRIDE entries in one list: an entry's place gives its row and column, and a row more is swept at a time.
 use Prim.Native.Nat.{ℕ, _+_, _*_, _/_, _%_, _<_, _≤_}
 use mathlib.Core.Path.{_≡_, refl, sym, ap, ap₂, _∙_}
-use mathlib.Core.Bool.{false}
+use mathlib.Core.Bool.{Bool, true, false}
 use mathlib.Core.List.{List}
 use native.Mathlib.Omega.{arith}
 use native.Mathlib.Decide.{decLt}
@@ -14,7 +14,7 @@ use borrow.Author.Count.{below-more}
 use Rattle.ticks.specs.Min.{minZ}
 use Rattle.ticks.proofs.Ticks.{ticks, ltZ-false}
 use Rattle.meaning.specs.Distances.{added, Closed}
-use Rattle.distances.specs.Matrix.{STRIDE, ENTRIES, at, Changed, Beside}
+use Rattle.distances.specs.Matrix.{STRIDE, ENTRIES, at, Changed, Beside, Narrowed}
 use Rattle.distances.specs.Sweep.{Swept}
 use Rattle.distances.specs.Rows.{lowered}
 use Rattle.distances.proofs.Sweep.{swept-as}
@@ -131,6 +131,13 @@ beside-then x y = record {
 
 pub changed-beside : {n : ℕ} {d d′ : List ℤ} {f : ℕ → ℕ → ℤ} → Changed n n d d′ f → Beside n d d′
 changed-beside r = record { long = r .long; beside = r .beside; rest = r .rest }
+
+pub narrowed-beside : {n a b : ℕ} {lo hi : ℤ} {d d′ : List ℤ} {r : Bool} → Narrowed n a b lo hi d d′ r → Beside n d d′
+narrowed-beside {n} {d = d} {d′} {r} h = go r refl
+  where
+    go : (s : Bool) → r ≡ s → Beside n d d′
+    go true e = beside-then (changed-beside (h .taken e .upper)) (changed-beside (h .taken e .lower))
+    go false e = rw (h .refused e) beside-same
 
 beside-changed : {n : ℕ} {d d′ : List ℤ} (f : ℕ → ℕ → ℤ) → Beside n d d′ → ((i j : ℕ) → i < n → j < n → at d′ i j ≡ f i j) → Changed n n d d′ f
 beside-changed f x e = record { long = x .long; done = e; beside = x .beside; rest = x .rest }

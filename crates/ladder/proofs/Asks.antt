@@ -47,7 +47,8 @@ module _ {n : ℕ} {x : Record} {held : List ℕ} {y : ℕ} {d : List ℤ} (a : 
   }
 
 -- the same with other words for the events and the ends
-pub narrowing-as : {n a b a′ b′ : ℕ} {lo hi lo′ hi′ : ℤ} {d : List ℤ} → a′ ≡ a → b′ ≡ b → lo′ ≡ lo → hi′ ≡ hi → Narrowing n a b lo hi d → Narrowing n a′ b′ lo′ hi′ d
+pub narrowing-as : {n a b a′ b′ : ℕ} {lo hi lo′ hi′ : ℤ} {d : List ℤ} → a′ ≡ a → b′ ≡ b → lo′ ≡ lo → hi′ ≡ hi →
+    Narrowing n a b lo hi d → Narrowing n a′ b′ lo′ hi′ d
 narrowing-as ea eb el eh h = rw (ea, eb, el, eh) h
 
 pub asked-as : {n : ℕ} {x : Record} {held : List ℕ} {y : ℕ} {d d′ : List ℤ} {r : Bool} {first past a b : ℕ} {lo hi : ℤ} → Run y (levelsAt x held) first past →

@@ -11,18 +11,19 @@ use lib.Seq.{ext-getD}
 use lib.IntN.{ℤ}
 use Rattle.meaning.specs.Plan as M
 use Rattle.meaning.specs.Plan.{recordAt, wishes, TOP-LEVEL, MOST-RECORDS}
-use Rattle.meaning.specs.Outcome.{over}
-use Rattle.meaning.specs.Distances.{earliest}
+use Rattle.meaning.specs.Outcome.{BestTimes, over}
+use Rattle.meaning.specs.Distances.{earliest, Stands}
 use Rattle.meaning.specs.Faultless.{GoodRecord, WithoutFault}
 use Rattle.meaning.specs.Climb.{number}
 use Rattle.meaning.proofs.Stands.{stands-same, stands-earliest}
 use Rattle.meaning.proofs.Solve.{all-left}
-use Rattle.meaning.proofs.Wishes.{next-wish, next-rule, wishes-few, wish-below, all-wishes, climb-start}
+use Rattle.meaning.proofs.Wishes.{next-wish, next-rule, wishes-few, wish-below, all-wishes, climb-start, climb-best, climb-levels}
 use Rattle.plan.specs.declared.Plan.{Plan}
 use Rattle.plan.specs.Held.{rowOf, blank, Holds}
 use Rattle.plan.proofs.Use.{rowAt, held-row}
 use Rattle.distances.specs.Matrix.{at}
 use Rattle.distances.specs.Sweep.{Swept}
+use Rattle.distances.proofs.Rows.{beside-same}
 use Rattle.distances.proofs.Sweep.{swept-none, swept-more, swept-written}
 use Rattle.bounds.specs.Listed.{Planned}
 use Rattle.ladder.specs.Memory.{InMemory}
@@ -45,11 +46,13 @@ module _ (p : M.Plan) (k first : ℕ) (l : k < length (p .records)) where
   wish-room (M.rule a b lo hi) e z = absurd (not-suc-le-zero z)
   wish-room (M.wish a b lo ls) e z = wish-below (p .records) k l e
 
-  one-counted : {w r : ℕ} {after after′ : List ℕ} (m : M.Record) → recordAt p k ≡ m → GoodRecord (p .events) m → RecordCleared (rowOf first m) w after after′ r → w ≡ number p k → r ≡ number p (suc k)
+  one-counted : {w r : ℕ} {after after′ : List ℕ} (m : M.Record) → recordAt p k ≡ m → GoodRecord (p .events) m →
+      RecordCleared (rowOf first m) w after after′ r → w ≡ number p k → r ≡ number p (suc k)
   one-counted (M.rule a b lo hi) e q c s = c .rule refl .1 ∙ s ∙ sym (next-rule (p .records) k l e)
   one-counted (M.wish a b lo ls) e q c s = c .wish (q .levelled .some) .1 ∙ omega (arith, s, next-wish (p .records) k l e)
 
-module _ {h : Plan} {k w : ℕ} {before after : List ℕ} (known : Planned h) (room : MOST-RECORDS ≤ length before) (u : ClearedTo h k w before after) (l : k < h .count) where
+module _ {h : Plan} {k w : ℕ} {before after : List ℕ}
+    (known : Planned h) (room : MOST-RECORDS ≤ length before) (u : ClearedTo h k w before after) (l : k < h .count) where
   pub cleared-room : 0 < getD (h .records) k blank .count → w < length before
   cleared-room z =
       let p = known .plan in
@@ -69,7 +72,13 @@ module _ {h : Plan} {k w : ℕ} {before after : List ℕ} (known : Planned h) (r
           let i : k < length (p .records) = omega (arith, o .count) in
           rw (add-one k) (one-counted p k (rowAt h k .first) i (recordAt p k) refl (f .each k i) (rw (held-row o k) at c) (u .count o f))
 
-pub cleared-all : {h : Plan} {k w : ℕ} {before after : List ℕ} → MOST-RECORDS ≤ length before → ClearedTo h k w before after → h .count ≤ k → GradesCleared h before after w
+-- n zeros and no more
+all-zero : (xs : List ℕ) (n : ℕ) → length xs ≡ n → ((i : ℕ) → i < n → getD xs i 0 ≡ 0) → xs ≡ replicate n 0
+all-zero xs n long f =
+    ext-getD 0 xs (replicate n 0) (long ∙ sym (length-replicate n 0)) (λ i q. let l : i < n = omega arith in f i l ∙ sym (getD-replicate {A = ℕ} n i 0 0 l))
+
+pub cleared-all : {h : Plan} {k w : ℕ} {before after : List ℕ} → MOST-RECORDS ≤ length before → ClearedTo h k w before after → h .count ≤ k →
+    GradesCleared h before after w
 cleared-all {h} {k} {w} {before} {after} room u l = record { count = count; written = written }
   where
     count : {p : M.Plan} → Holds p h → WithoutFault p → w ≡ wishes p
@@ -78,8 +87,7 @@ cleared-all {h} {k} {w} {before} {after} room u l = record { count = count; writ
     written : {p : M.Plan} → Holds p h → WithoutFault p → after ≡ over (replicate (wishes p) 0) before
     written {p} o f =
         let x = swept-written (rw (count o f) at (u .swept)) (omega (arith, wishes-few (p .records), f .few)) in
-        let e : x .front ≡ replicate (wishes p) 0 = ext-getD 0 (x .front) (replicate (wishes p) 0) (x .count ∙ sym (length-replicate (wishes p) 0)) (λ i q. let n : i < wishes p = omega (arith, x .count) in x .entries i n ∙ sym (getD-replicate {A = ℕ} (wishes p) i 0 0 n)) in
-        rw e at (x .over-old)
+        rw (all-zero (x .front) (wishes p) (x .count) (x .entries)) at (x .over-old)
 
 -- ---- the grades below y are done
 
@@ -88,27 +96,31 @@ pub record GradesTo (h : Plan) (held : List ℕ) (y : ℕ) (d₀ d : List ℤ) (
   pub most : y ≤ TOP-LEVEL + 1
   pub size : length d ≡ length d₀
   pub long : length levels ≡ length levels₀
-  pub stage : {p : M.Plan} {g : ℕ} {before : List ℕ} → InMemory p h held → y ≡ suc g → Stage p 0 0 d₀ before levels₀ → Stage p g 0 d before levels
+  pub stage : {p : M.Plan} {g : ℕ} {old : List ℤ} {before : List ℕ} → InMemory p h held → y ≡ suc g →
+      Stage p 0 0 old d₀ before levels₀ → Stage p g 0 old d before levels
 
 pub grades-none : {h : Plan} {held : List ℕ} {d : List ℤ} {levels : List ℕ} → GradesTo h held 1 d d levels levels
 grades-none {h} {held} {d} {levels} = record { some = omega arith; most = omega arith; size = refl; long = refl; stage = stage }
   where
-    stage : {p : M.Plan} {g : ℕ} {before : List ℕ} → InMemory p h held → 1 ≡ suc g → Stage p 0 0 d before levels → Stage p g 0 d before levels
+    stage : {p : M.Plan} {g : ℕ} {old : List ℤ} {before : List ℕ} → InMemory p h held → 1 ≡ suc g →
+        Stage p 0 0 old d before levels → Stage p g 0 old d before levels
     stage {p} {g} o e s = let z : g ≡ 0 = omega arith in rw z s
 
 -- the stage before grade 1
 module _ {p : M.Plan} {h : Plan} {held : List ℕ} {d : List ℤ} (o : Ready p h held d) where
-  ready-stage : {before levels : List ℕ} {r : ℕ} → GradesCleared h before levels r → Stage p 0 0 d before levels
+  ready-stage : {before levels : List ℕ} {r : ℕ} → GradesCleared h before levels r → Stage p 0 0 d d before levels
   ready-stage c = record {
     grades = replicate (wishes p) 0;
     climbed = climb-start p (earliest (at d)) (stands-earliest (o .memory .faultless .some) (o .stands));
     written = c .written (o .memory .holds) (o .memory .faultless);
     net = o .net;
     stands = stands-same (o .stands) (all-left p);
+    beside = beside-same;
   }
 
 module _ {h : Plan} {held : List ℕ} {y : ℕ} {d₀ d : List ℤ} {levels₀ levels : List ℕ} (u : GradesTo h held y d₀ d levels₀ levels) where
-  pub grades-ask : {before : List ℕ} {r : ℕ} → ToClimb h held d₀ before → GradesCleared h before levels₀ r → length levels₀ ≡ length before → y ≤ TOP-LEVEL → Grading h held y d levels
+  pub grades-ask : {before : List ℕ} {r : ℕ} → ToClimb h held d₀ before → GradesCleared h before levels₀ r → length levels₀ ≡ length before → y ≤ TOP-LEVEL →
+      Grading h held y d levels
   grades-ask {before} a c long l =
       let e : y ≡ suc (y - 1) = omega (arith, u .some) in
       record {
@@ -117,22 +129,37 @@ module _ {h : Plan} {held : List ℕ} {y : ℕ} {d₀ d : List ℤ} {levels₀ l
         grade = y - 1;
         next = e;
         top = l;
+        old = d₀;
         before = before;
         stage = u .stage (a .ready .memory) e (ready-stage (a .ready) c);
         room = omega (arith, a .room, u .long);
       }
 
-  pub grades-next : {d′ : List ℤ} {levels′ : List ℕ} → y ≤ TOP-LEVEL → Graded h held y d d′ levels levels′ → length d′ ≡ length d → length levels′ ≡ length levels → GradesTo h held (y + 1) d₀ d′ levels₀ levels′
+  pub grades-next : {d′ : List ℤ} {levels′ : List ℕ} → y ≤ TOP-LEVEL → Graded h held y d d′ levels levels′ →
+      length d′ ≡ length d → length levels′ ≡ length levels → GradesTo h held (y + 1) d₀ d′ levels₀ levels′
   grades-next {d′} {levels′} l c size long = record { some = omega arith; most = omega arith; size = size ∙ u .size; long = long ∙ u .long; stage = stage }
     where
-      stage : {p : M.Plan} {g : ℕ} {before : List ℕ} → InMemory p h held → y + 1 ≡ suc g → Stage p 0 0 d₀ before levels₀ → Stage p g 0 d′ before levels′
+      stage : {p : M.Plan} {g : ℕ} {old : List ℤ} {before : List ℕ} → InMemory p h held → y + 1 ≡ suc g →
+          Stage p 0 0 old d₀ before levels₀ → Stage p g 0 old d′ before levels′
       stage {p} {g} o e s =
           let z : g ≡ y = omega arith in
           let n : y ≡ suc (y - 1) = omega (arith, u .some) in
           rw z (c .graded o n (u .stage o n s))
 
-  pub grades-all : {before : List ℕ} {r : ℕ} → TOP-LEVEL < y → GradesCleared h before levels₀ r → (p : M.Plan) → Ready p h held d₀ → Climbed p d before levels r
+  pub grades-all : {before : List ℕ} {r : ℕ} → TOP-LEVEL < y → GradesCleared h before levels₀ r → (p : M.Plan) → Ready p h held d₀ →
+      Climbed p d₀ d before levels r
   grades-all l c p o =
       let e : y ≡ suc TOP-LEVEL = omega (arith, u .most) in
       let s = u .stage (o .memory) e (ready-stage o c) in
-      record { grades = s .grades; climbed = s .climbed; count = c .count (o .memory .holds) (o .memory .faultless); written = s .written; net = s .net; stands = s .stands }
+      let best : Stands (p .events) (at d) (BestTimes p) = stands-same (s .stands) (climb-best p (s .climbed)) in
+      record {
+        grades = s .grades;
+        some = earliest (at d);
+        best = stands-earliest (o .memory .faultless .some) best;
+        levelled = climb-levels p (o .memory .faultless) (s .climbed);
+        count = c .count (o .memory .holds) (o .memory .faultless);
+        written = s .written;
+        net = s .net;
+        stands = best;
+        beside = s .beside;
+      }

@@ -3,3 +3,4 @@ pub mod Runs
 pub mod Asks
 pub mod Stages
 pub mod Grades
+pub mod One

@@ -64,6 +64,7 @@ run-found {held} {f} {end} {y} {first} {past} one ordered room l p = record {
     go j h (yes k) = lower j k (p .after .each (f + j) (omega arith) k)
     go j h (no n) = past-end one (slice f end held) j (omega (arith, long))
 
-pub run-of : {held : List ℕ} {y p q first past : ℕ} (x : Record) → 1 ≤ y → x .first + x .count ≤ length held → p ≡ x .first → q ≡ x .count → RunFirst held p (p + q) y first → RunPast held p (p + q) y past →
+pub run-of : {held : List ℕ} {y p q first past : ℕ} (x : Record) → 1 ≤ y → x .first + x .count ≤ length held → p ≡ x .first → q ≡ x .count →
+    RunFirst held p (p + q) y first → RunPast held p (p + q) y past →
     Run y (levelsAt x held) (first - p) (past - p)
 run-of x one room at n l p = rw at (run-found one (omega arith) room (rw (at, n) at l) (rw (at, n) at p))

@@ -16,7 +16,7 @@ use Rattle.meaning.specs.Outcome.{over}
 use Rattle.meaning.specs.Distances.{earliest, Stands}
 use Rattle.meaning.specs.Run.{Run}
 use Rattle.meaning.specs.Faultless.{GoodRecord}
-use Rattle.meaning.specs.Climb.{number}
+use Rattle.meaning.specs.Climb.{number, ClimbedTo}
 use Rattle.meaning.proofs.Stands.{stands-same, stands-earliest}
 use Rattle.meaning.proofs.Solve.{Between}
 use Rattle.meaning.proofs.Wishes.{wish-number, wish-below, next-wish, next-rule, climb-rule, climb-failed, climb-yes, climb-within, climb-no, climb-next}
@@ -26,6 +26,7 @@ use Rattle.plan.specs.Held.{levelsIn, rowOf, blank}
 use Rattle.plan.proofs.Use.{row-held}
 use Rattle.distances.specs.Matrix.{at, Net, Narrowing, Narrowed}
 use Rattle.distances.proofs.Net.{narrowed-means, narrowed-none}
+use Rattle.distances.proofs.Rows.{beside-then, narrowed-beside}
 use Rattle.ladder.specs.Memory.{InMemory}
 use Rattle.ladder.specs.Climbing.{Asking, WishAnswered, WishClimbed, RecordAsking, RecordClimbed, Stage, Grading, Graded}
 use Rattle.ladder.proofs.Asks.{narrowing}
@@ -53,8 +54,15 @@ module _ {n a b : ℕ} {lo hi : ℤ} {d d′ : List ℤ} {X : Times → Type 0} 
 
 -- ---- one record
 
-module _ {p : M.Plan} {g k : ℕ} {d : List ℤ} {before levels : List ℕ} (s : Stage p g k d before levels) (l : k < length (p .records)) (held : List ℕ) (first : ℕ) where
-  wish-asking : {a b : ℕ} {lo : ℤ} {ls : List ℕ} → GoodRecord (p .events) (M.wish a b lo ls) → first + length ls ≤ length held → Asking (p .events) (rowOf first (M.wish a b lo ls)) held (suc g) d
+-- the same grades, matrix and levels at another question
+same-grades : {p : M.Plan} {g g′ k k′ : ℕ} {old d : List ℤ} {before levels : List ℕ} (s : Stage p g k old d before levels) →
+    ClimbedTo p g′ k′ (s .grades) → Stage p g′ k′ old d before levels
+same-grades s c = record { grades = s .grades; climbed = c; written = s .written; net = s .net; stands = s .stands; beside = s .beside }
+
+module _ {p : M.Plan} {g k : ℕ} {old d : List ℤ} {before levels : List ℕ}
+    (s : Stage p g k old d before levels) (l : k < length (p .records)) (held : List ℕ) (first : ℕ) where
+  wish-asking : {a b : ℕ} {lo : ℤ} {ls : List ℕ} → GoodRecord (p .events) (M.wish a b lo ls) → first + length ls ≤ length held →
+      Asking (p .events) (rowOf first (M.wish a b lo ls)) held (suc g) d
   wish-asking q room = record {
     horizon = p .horizon;
     net = s .net;
@@ -68,7 +76,8 @@ module _ {p : M.Plan} {g k : ℕ} {d : List ℤ} {before levels : List ℕ} (s :
     grade = omega arith;
   }
 
-  record-asking : (m : M.Record) → recordAt p k ≡ m → GoodRecord (p .events) m → length (p .records) ≤ length levels → first + length (levelsIn m) ≤ length held →
+  record-asking : (m : M.Record) → recordAt p k ≡ m → GoodRecord (p .events) m → length (p .records) ≤ length levels →
+      first + length (levelsIn m) ≤ length held →
       RecordAsking (p .events) (rowOf first m) held (suc g) (number p k) d levels
   record-asking (M.rule a b lo hi) e q few room = record { asking = λ z. absurd (not-suc-le-zero z); inside = λ z. absurd (not-suc-le-zero z) }
   record-asking (M.wish a b lo ls) e q few room =
@@ -86,17 +95,11 @@ module _ {p : M.Plan} {g k : ℕ} {d : List ℤ} {before levels : List ℕ} (s :
     at-most : getD (s .grades) (number p k) 0 ≤ g
     at-most = omega (arith, s .climbed .waiting (s .climbed .some) (s .climbed .left) (number p k) (omega arith) (wish-number (p .records) k l e))
 
-    not-asked : (getD levels (number p k) 0 ≡ suc g - 1 → ⊥) → Stage p g (suc k) d before levels
-    not-asked f = record {
-      grades = s .grades;
-      climbed = climb-failed p (s .climbed) l e (omega (arith, at-most, grade-is, f));
-      written = s .written;
-      net = s .net;
-      stands = s .stands;
-    }
+    not-asked : (getD levels (number p k) 0 ≡ suc g - 1 → ⊥) → Stage p g (suc k) old d before levels
+    not-asked f = same-grades s (climb-failed p (s .climbed) l e (omega (arith, at-most, grade-is, f)))
 
     answered : {d′ : List ℤ} {levels′ : List ℕ} → slice first (first + length ls) held ≡ ls → first + length ls ≤ length held →
-        WishAnswered (p .events) (rowOf first (M.wish a b lo ls)) held (suc g) (number p k) d d′ levels levels′ → Stage p g (suc k) d′ before levels′
+        WishAnswered (p .events) (rowOf first (M.wish a b lo ls)) held (suc g) (number p k) d d′ levels levels′ → Stage p g (suc k) old d′ before levels′
     answered {d′} {levels′} same room r = go (r .answer) refl (rw same at (r .asked .run)) (r .asked .narrowed)
       where
         first′ : ℕ
@@ -108,7 +111,8 @@ module _ {p : M.Plan} {g k : ℕ} {d : List ℤ} {before levels : List ℕ} (s :
         asked : Narrowing (p .events) a b (lo +ℤ pos first′) (lo +ℤ pos past -ℤ pos 1) d
         asked = narrowing (wish-asking q room) (r .asked .run)
 
-        go : (t : Bool) → r .answer ≡ t → Run (suc g) ls first′ past → Narrowed (p .events) a b (lo +ℤ pos first′) (lo +ℤ pos past -ℤ pos 1) d d′ t → Stage p g (suc k) d′ before levels′
+        go : (t : Bool) → r .answer ≡ t → Run (suc g) ls first′ past →
+            Narrowed (p .events) a b (lo +ℤ pos first′) (lo +ℤ pos past -ℤ pos 1) d d′ t → Stage p g (suc k) old d′ before levels′
         go true z run n =
             let held-to = narrowed-stands (s .stands) (s .net) asked n in
             let u = stands-earliest (s .net .some) held-to in
@@ -118,28 +122,27 @@ module _ {p : M.Plan} {g k : ℕ} {d : List ℤ} {before levels : List ℕ} (s :
               written = r .up z ∙ ap (λ v. set v (number p k) (suc g)) (s .written) ∙ over-set (s .grades) before (number p k) (suc g) here;
               net = n .net (s .net);
               stands = stands-same held-to (climb-within p (s .climbed) l e run (q .levelled .peaked) top);
+              beside = beside-then (s .beside) (narrowed-beside n);
             }
-        go false z run n = rw (n .refused refl, r .stays z) (record {
-          grades = s .grades;
-          climbed = climb-no p (s .climbed) l e run (q .levelled .peaked) top (λ t x i. narrowed-nothing (s .stands) asked n t x i);
-          written = s .written;
-          net = s .net;
-          stands = s .stands;
-        })
+        go false z run n =
+            rw (n .refused refl, r .stays z)
+            (same-grades s (climb-no p (s .climbed) l e run (q .levelled .peaked) top (λ t x i. narrowed-nothing (s .stands) asked n t x i)))
 
     wish-next : {d′ : List ℤ} {levels′ : List ℕ} → slice first (first + length ls) held ≡ ls → first + length ls ≤ length held →
-        WishClimbed (p .events) (rowOf first (M.wish a b lo ls)) held (suc g) (number p k) d d′ levels levels′ → Stage p g (suc k) d′ before levels′
+        WishClimbed (p .events) (rowOf first (M.wish a b lo ls)) held (suc g) (number p k) d d′ levels levels′ → Stage p g (suc k) old d′ before levels′
     wish-next {d′} {levels′} same room c = go (ℕ-discrete (getD levels (number p k) 0) (suc g - 1))
       where
-        go : Dec (getD levels (number p k) 0 ≡ suc g - 1) → Stage p g (suc k) d′ before levels′
+        go : Dec (getD levels (number p k) 0 ≡ suc g - 1) → Stage p g (suc k) old d′ before levels′
         go (yes i) = answered same room (c .climbing i)
         go (no i) = rw (c .stopped i .0, c .stopped i .1) (not-asked i)
 
-  record-next : {d′ : List ℤ} {levels′ : List ℕ} {r : ℕ} → g < TOP-LEVEL → (m : M.Record) → recordAt p k ≡ m → GoodRecord (p .events) m → slice first (first + length (levelsIn m)) held ≡ levelsIn m →
-      first + length (levelsIn m) ≤ length held → RecordClimbed (p .events) (rowOf first m) held (suc g) (number p k) d d′ levels levels′ r → Stage p g (suc k) d′ before levels′ × (r ≡ number p (suc k))
+  record-next : {d′ : List ℤ} {levels′ : List ℕ} {r : ℕ} → g < TOP-LEVEL → (m : M.Record) → recordAt p k ≡ m → GoodRecord (p .events) m →
+      slice first (first + length (levelsIn m)) held ≡ levelsIn m → first + length (levelsIn m) ≤ length held →
+      RecordClimbed (p .events) (rowOf first m) held (suc g) (number p k) d d′ levels levels′ r →
+      Stage p g (suc k) old d′ before levels′ × (r ≡ number p (suc k))
   record-next top (M.rule a b lo hi) e q same room c =
       let z = c .rule refl in
-      (rw (z .0, z .1) (record { grades = s .grades; climbed = climb-rule p (s .climbed) l e; written = s .written; net = s .net; stands = s .stands }), z .2 ∙ sym (next-rule (p .records) k l e))
+      (rw (z .0, z .1) (same-grades s (climb-rule p (s .climbed) l e)), z .2 ∙ sym (next-rule (p .records) k l e))
   record-next top (M.wish a b lo ls) e q same room c =
       let z = c .wish (q .levelled .some) in
       (wish-next e q top same room (z .0), z .1 ∙ omega (arith, next-wish (p .records) k l e))
@@ -150,19 +153,23 @@ pub record Upto (h : Plan) (held : List ℕ) (y k w : ℕ) (d₀ d : List ℤ) (
   pub most : k ≤ h .count
   pub size : length d ≡ length d₀
   pub long : length levels ≡ length levels₀
-  pub stage : {p : M.Plan} {g : ℕ} {before : List ℕ} → InMemory p h held → y ≡ suc g → Stage p g 0 d₀ before levels₀ → Stage p g k d before levels × (w ≡ number p k)
+  pub stage : {p : M.Plan} {g : ℕ} {old : List ℤ} {before : List ℕ} → InMemory p h held → y ≡ suc g →
+      Stage p g 0 old d₀ before levels₀ → Stage p g k old d before levels × (w ≡ number p k)
 
 pub upto-none : {h : Plan} {held : List ℕ} {y : ℕ} {d : List ℤ} {levels : List ℕ} → Upto h held y 0 0 d d levels levels
 upto-none = record { most = omega arith; size = refl; long = refl; stage = λ o e s. (s, refl) }
 
 -- the same with other words for the events, the grade and the number of the wish
-asking-as : {n n′ y y′ w w′ : ℕ} {x x′ : Record} {held : List ℕ} {d : List ℤ} {levels : List ℕ} → n′ ≡ n → x′ ≡ x → y′ ≡ y → w′ ≡ w → RecordAsking n x held y w d levels → RecordAsking n′ x′ held y′ w′ d levels
+asking-as : {n n′ y y′ w w′ : ℕ} {x x′ : Record} {held : List ℕ} {d : List ℤ} {levels : List ℕ} →
+    n′ ≡ n → x′ ≡ x → y′ ≡ y → w′ ≡ w → RecordAsking n x held y w d levels → RecordAsking n′ x′ held y′ w′ d levels
 asking-as en ex ey ew a = rw (en, ex, ey, ew) a
 
-climbed-as : {n n′ y y′ w w′ r : ℕ} {x x′ : Record} {held : List ℕ} {d d′ : List ℤ} {levels levels′ : List ℕ} → n′ ≡ n → x′ ≡ x → y′ ≡ y → w′ ≡ w → RecordClimbed n′ x′ held y′ w′ d d′ levels levels′ r → RecordClimbed n x held y w d d′ levels levels′ r
+climbed-as : {n n′ y y′ w w′ r : ℕ} {x x′ : Record} {held : List ℕ} {d d′ : List ℤ} {levels levels′ : List ℕ} →
+    n′ ≡ n → x′ ≡ x → y′ ≡ y → w′ ≡ w → RecordClimbed n′ x′ held y′ w′ d d′ levels levels′ r → RecordClimbed n x held y w d d′ levels levels′ r
 climbed-as en ex ey ew c = rw (en, ex, ey, ew) at c
 
-module _ {h : Plan} {held : List ℕ} {y k w n : ℕ} {d₀ d : List ℤ} {levels₀ levels : List ℕ} (asked : Grading h held y d₀ levels₀) (u : Upto h held y k w d₀ d levels₀ levels) (l : k < h .count) (events : n ≡ h .events) where
+module _ {h : Plan} {held : List ℕ} {y k w n : ℕ} {d₀ d : List ℤ} {levels₀ levels : List ℕ}
+    (asked : Grading h held y d₀ levels₀) (u : Upto h held y k w d₀ d levels₀ levels) (l : k < h .count) (events : n ≡ h .events) where
   pub upto-asks : RecordAsking n (getD (h .records) k blank) held y w d levels
   upto-asks =
       let o = asked .memory in
@@ -170,24 +177,30 @@ module _ {h : Plan} {held : List ℕ} {y k w n : ℕ} {d₀ d : List ℤ} {level
       let i : k < length (asked .plan .records) = omega (arith, o .holds .count) in
       let x = row-held held (o .holds) (o .faultless) (o .room) (o .levels) k i in
       asking-as (events ∙ o .holds .events) (x .row) (asked .next) (s .1)
-      (record-asking (s .0) i held (getD (h .records) k blank .first) (recordAt (asked .plan) k) refl (o .faultless .each k i) (omega (arith, o .faultless .few, asked .room, u .long)) (x .inside))
+      (record-asking (s .0) i held (getD (h .records) k blank .first) (recordAt (asked .plan) k) refl (o .faultless .each k i)
+      (omega (arith, o .faultless .few, asked .room, u .long)) (x .inside))
 
-  pub upto-next : {d′ : List ℤ} {levels′ : List ℕ} {r : ℕ} → RecordClimbed n (getD (h .records) k blank) held y w d d′ levels levels′ r → length d′ ≡ length d → length levels′ ≡ length levels → Upto h held y (k + 1) r d₀ d′ levels₀ levels′
+  pub upto-next : {d′ : List ℤ} {levels′ : List ℕ} {r : ℕ} → RecordClimbed n (getD (h .records) k blank) held y w d d′ levels levels′ r →
+      length d′ ≡ length d → length levels′ ≡ length levels → Upto h held y (k + 1) r d₀ d′ levels₀ levels′
   upto-next {d′} {levels′} {r} c size long = record { most = omega arith; size = size ∙ u .size; long = long ∙ u .long; stage = next }
     where
-      next : {p : M.Plan} {g : ℕ} {before : List ℕ} → InMemory p h held → y ≡ suc g → Stage p g 0 d₀ before levels₀ → Stage p g (k + 1) d′ before levels′ × (r ≡ number p (k + 1))
+      next : {p : M.Plan} {g : ℕ} {old : List ℤ} {before : List ℕ} → InMemory p h held → y ≡ suc g →
+          Stage p g 0 old d₀ before levels₀ → Stage p g (k + 1) old d′ before levels′ × (r ≡ number p (k + 1))
       next {p} o e s₀ =
           let s = u .stage o e s₀ in
           let i : k < length (p .records) = omega (arith, o .holds .count) in
           let x = row-held held (o .holds) (o .faultless) (o .room) (o .levels) k i in
           rw (add-one k)
-          (record-next (s .0) i held (getD (h .records) k blank .first) (omega (arith, asked .top)) (recordAt p k) refl (o .faultless .each k i) (x .levels) (x .inside) (climbed-as (events ∙ o .holds .events) (x .row) e (s .1) c))
+          (record-next (s .0) i held (getD (h .records) k blank .first) (omega (arith, asked .top)) (recordAt p k) refl (o .faultless .each k i)
+          (x .levels) (x .inside) (climbed-as (events ∙ o .holds .events) (x .row) e (s .1) c))
 
-pub upto-all : {h : Plan} {held : List ℕ} {y k w : ℕ} {d₀ d : List ℤ} {levels₀ levels : List ℕ} → Upto h held y k w d₀ d levels₀ levels → h .count ≤ k → Graded h held y d₀ d levels₀ levels
+pub upto-all : {h : Plan} {held : List ℕ} {y k w : ℕ} {d₀ d : List ℤ} {levels₀ levels : List ℕ} →
+    Upto h held y k w d₀ d levels₀ levels → h .count ≤ k → Graded h held y d₀ d levels₀ levels
 upto-all {h} {held} {y} {k} {w} {d₀} {d} {levels₀} {levels} u l = record { graded = all }
   where
-    all : {p : M.Plan} {g : ℕ} {before : List ℕ} → InMemory p h held → y ≡ suc g → Stage p g 0 d₀ before levels₀ → Stage p y 0 d before levels
-    all {p} {g} {before} o e s₀ =
+    all : {p : M.Plan} {g : ℕ} {old : List ℤ} {before : List ℕ} → InMemory p h held → y ≡ suc g →
+        Stage p g 0 old d₀ before levels₀ → Stage p y 0 old d before levels
+    all {p} {g} {old} {before} o e s₀ =
         let i : k ≡ length (p .records) = omega (arith, o .holds .count, u .most) in
-        let s : Stage p g (length (p .records)) d before levels = rw i at (u .stage o e s₀ .0) in
-        rw e (record { grades = s .grades; climbed = climb-next p (s .climbed); written = s .written; net = s .net; stands = s .stands })
+        let s : Stage p g (length (p .records)) old d before levels = rw i at (u .stage o e s₀ .0) in
+        rw e (same-grades s (climb-next p (s .climbed)))

@@ -4,12 +4,11 @@ use mathlib.Core.List.{List}
 use Prim.Native.Nat.{ℕ}
 use lib.IntN.{ℤ}
 use Rattle.meaning.specs.Plan as M
-use Rattle.meaning.specs.Plan.{Timetable, wishes, TOP-LEVEL}
-use Rattle.meaning.specs.Outcome.{over}
+use Rattle.meaning.specs.Plan.{Times, Timetable, levels, wishes}
+use Rattle.meaning.specs.Outcome.{BestTimes, over}
 use Rattle.meaning.specs.Distances.{Stands}
-use Rattle.meaning.specs.Climb.{ClimbedTo, Left}
 use Rattle.plan.specs.declared.Plan.{Plan}
-use Rattle.distances.specs.Matrix.{at, Net}
+use Rattle.distances.specs.Matrix.{at, Net, Beside}
 use Rattle.ladder.specs.Memory.{InMemory}
 
 -- a plan without fault in memory, and the matrix of its timetables
@@ -18,11 +17,16 @@ pub record Ready (p : M.Plan) (h : Plan) (held : List ℕ) (d : List ℤ) : Type
   pub net : Net (p .events) (p .horizon) d
   pub stands : Stands (p .events) (at d) (Timetable p)
 
--- the grades reached stand at the front of the levels, and the matrix is that of the timetables that have them
-pub record Climbed (p : M.Plan) (d′ : List ℤ) (before after : List ℕ) (r : ℕ) : Type 0 where
+-- the levels of the best timetables stand at the front of the levels, and the matrix is that of the best timetables; beside the n × n entries in use
+-- nothing changed
+pub record Climbed (p : M.Plan) (d d′ : List ℤ) (before after : List ℕ) (r : ℕ) : Type 0 where
   pub grades : List ℕ
-  pub climbed : ClimbedTo p TOP-LEVEL 0 grades
+  -- there are best timetables, and these are their levels
+  pub some : Times
+  pub best : BestTimes p some
+  pub levelled : (t : Times) → BestTimes p t → levels p t ≡ grades
   pub count : r ≡ wishes p
   pub written : after ≡ over grades before
   pub net : Net (p .events) (p .horizon) d′
-  pub stands : Stands (p .events) (at d′) (Left p grades)
+  pub stands : Stands (p .events) (at d′) (BestTimes p)
+  pub beside : Beside (p .events) d d′

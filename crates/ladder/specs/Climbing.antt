@@ -17,7 +17,7 @@ use Rattle.meaning.specs.Climb.{ClimbedTo, Left}
 use Rattle.plan.specs.declared.Record.{Record}
 use Rattle.plan.specs.declared.Plan.{Plan}
 use Rattle.plan.specs.Held.{Holds}
-use Rattle.distances.specs.Matrix.{at, Net, Narrowed}
+use Rattle.distances.specs.Matrix.{at, Net, Beside, Narrowed}
 use Rattle.ladder.specs.Memory.{InMemory}
 use Rattle.ladder.specs.Climbed.{Ready}
 
@@ -97,13 +97,14 @@ pub record RecordClimbed (n : ℕ) (x : Record) (held : List ℕ) (y w : ℕ) (d
 
 -- ---- one grade
 
--- g grades are done, and k records of the next
-pub record Stage (p : M.Plan) (g k : ℕ) (d : List ℤ) (before after : List ℕ) : Type 0 where
+-- g grades are done, and k records of the next; old and before are the matrix and the levels before the climb
+pub record Stage (p : M.Plan) (g k : ℕ) (old d : List ℤ) (before after : List ℕ) : Type 0 where
   pub grades : List ℕ
   pub climbed : ClimbedTo p g k grades
   pub written : after ≡ over grades before
   pub net : Net (p .events) (p .horizon) d
   pub stands : Stands (p .events) (at d) (Left p grades)
+  pub beside : Beside (p .events) old d
 
 pub record Grading (h : Plan) (held : List ℕ) (y : ℕ) (d : List ℤ) (levels : List ℕ) : Type 0 where
   pub plan : M.Plan
@@ -111,12 +112,14 @@ pub record Grading (h : Plan) (held : List ℕ) (y : ℕ) (d : List ℤ) (levels
   pub grade : ℕ
   pub next : y ≡ suc grade
   pub top : y ≤ TOP-LEVEL
+  pub old : List ℤ
   pub before : List ℕ
-  pub stage : Stage plan grade 0 d before levels
+  pub stage : Stage plan grade 0 old d before levels
   pub room : MOST-RECORDS ≤ length levels
 
 pub record Graded (h : Plan) (held : List ℕ) (y : ℕ) (d d′ : List ℤ) (levels levels′ : List ℕ) : Type 0 where
-  pub graded : {p : M.Plan} {g : ℕ} {before : List ℕ} → InMemory p h held → y ≡ suc g → Stage p g 0 d before levels → Stage p y 0 d′ before levels′
+  pub graded : {p : M.Plan} {g : ℕ} {old : List ℤ} {before : List ℕ} → InMemory p h held → y ≡ suc g →
+      Stage p g 0 old d before levels → Stage p y 0 old d′ before levels′
 
 -- ---- before the climb every wish is at grade 0
 

@@ -7,7 +7,8 @@ ghost use Rattle.meaning.specs.Plan as M;
 ghost use Rattle.meaning.specs.Plan.{MOST-RECORDS};
 ghost use Rattle.bounds.specs.Listed.{Planned};
 ghost use Rattle.ladder.specs.Climbed.{Ready, Climbed};
-ghost use Rattle.ladder.specs.Climbing.{Span, RunFirst, RunPast, Reach, Asking, Asked, WishClimbed, RecordAsking, RecordClimbed, Grading, Graded, RecordCleared, GradesCleared, ToClimb};
+ghost use Rattle.ladder.specs.Climbing.{Span, RunFirst, RunPast, Reach, Asking, Asked, WishClimbed, RecordAsking, RecordClimbed};
+ghost use Rattle.ladder.specs.Climbing.{Grading, Graded, RecordCleared, GradesCleared, ToClimb};
 use plan::Plan;
 use plan::Record;
 
@@ -157,7 +158,8 @@ fn clear_grades(h: Plan, levels: &mut [u8]) -> usize
 // The grades from 1 to the top, and within a grade the wishes in record order; the number of wishes.
 pub fn climb(d: &mut [i32], h: Plan, held: &[u8], levels: &mut [u8]) -> usize
     requires { ⌜ ToClimb h (now held) (now d) (now levels) ⌝ }
-    ensures { λ r. ⌜ ((p : M.Plan) → Ready p h (now (held .entry)) (now (d .entry)) → Climbed p (now (d .exit)) (now (levels .entry)) (now (levels .exit)) r) ⌝ }
+    ensures { λ r. ⌜ ((p : M.Plan) → Ready p h (now (held .entry)) (now (d .entry))
+        → Climbed p (now (d .entry)) (now (d .exit)) (now (levels .entry)) (now (levels .exit)) r) ⌝ }
 {
     let count = clear_grades(h, levels);
     for y in 1..=TOP_GRADE {

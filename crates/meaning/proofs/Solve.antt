@@ -10,17 +10,17 @@ use lib.IntN.{ℤ, pos, _+ℤ_, _-ℤ_}
 use lib.Signed.{_≤ℤ_}
 use Rattle.ticks.proofs.Ticks as K
 use Rattle.ticks.proofs.Ticks.{ticks}
-use Rattle.meaning.specs.Plan.{Record, rule, wish, Plan, recordAt, Times, Timetable, Within, wishes, TOP-LEVEL}
+use Rattle.meaning.specs.Plan.{Record, rule, wish, Plan, recordAt, Times, Timetable, Within, levels, wishes, TOP-LEVEL}
 use Rattle.meaning.specs.Bounds.{Bound, upper, lower}
 use Rattle.meaning.specs.Distances.{Keeps, earliest, Distances, Stands, addedBound}
-use Rattle.meaning.specs.Outcome.{at, Solved}
+use Rattle.meaning.specs.Outcome.{BestTimes, at, Solved}
 use Rattle.meaning.specs.Run.{Run}
 use Rattle.meaning.proofs.Times.{timesFrom, times-count, times-at}
 use Rattle.meaning.specs.Faultless.{WithoutFault, GoodRecord}
 use Rattle.meaning.specs.Climb.{Left, number, ClimbedTo}
 use Rattle.meaning.proofs.Distances.{earliest-holds, earliest-least}
 use Rattle.meaning.proofs.Peaks.{InRun, runFirst, runPast, run-is}
-use Rattle.meaning.proofs.Wishes.{climb-start, climb-rule, climb-yes, climb-within, climb-no, climb-next, ladder-solved}
+use Rattle.meaning.proofs.Wishes.{climb-start, climb-rule, climb-yes, climb-within, climb-no, climb-next, climb-best, climb-levels}
 use Rattle.meaning.proofs.Bounds.{Placed, kept-upper, kept-lower, held-record}
 use Rattle.meaning.proofs.Stands.{stands-same, With, added-adds, stands-adds, stands-none, stands-earliest}
 use Rattle.meaning.proofs.Chains.{chain-excludes}
@@ -59,17 +59,23 @@ two-bounds {n} {a} {b} ha hb f lo hi X x = ⊎-map
 pub all-left : (p : Plan) (t : Times) → Timetable p t ↔ Left p (replicate (wishes p) 0) t
 all-left p t = (λ h. record { member = h; atLeast = λ j l. omega (arith, getD-replicate {A = ℕ} (wishes p) j 0 0 l) }, λ h. h .member)
 
--- ---- the end: the least times of what is left
+-- ---- the end: the least times
 
 -- rows of times that agree on the events
 keeps-agree : {n : ℕ} {D : Distances} {t : Times} (u : Times) → 0 < n → Keeps n D t → ((e : ℕ) → e < n → u e ≡ t e) → Keeps n D u
 keeps-agree u z h f = record { origin = f 0 z ∙ h .origin; kept = λ {i} {j} p q. omega (ticks, h .kept p q, f i p, f j q) }
 
-pub earliest-solved : {p : Plan} → WithoutFault p → {g : List ℕ} → ClimbedTo p TOP-LEVEL 0 g → {D : Distances} → Stands (p .events) D (Left p g) →
-    (ts : List ℤ) → length ts ≡ p .events → ((e : ℕ) → e < p .events → at ts e ≡ earliest D e) → Solved p ts g
-earliest-solved {p} w c {D} s ts n f =
-    ladder-solved p w c ts n (s .from (keeps-agree (at ts) (w .some) (earliest-holds (s .closed) (w .some)) f))
-    (λ u h e l. subst⁻¹ (λ z. z ≤ℤ u e) (f e l) (earliest-least (w .some) (s .into h) l))
+-- the least times of a matrix that stands for the best timetables are the outcome, with the levels that these have
+pub earliest-solved : {p : Plan} {g : List ℕ} {D : Distances} → 0 < p .events → Stands (p .events) D (BestTimes p) →
+    ((t : Times) → BestTimes p t → levels p t ≡ g) → (ts : List ℤ) → length ts ≡ p .events → ((e : ℕ) → e < p .events → at ts e ≡ earliest D e) → Solved p ts g
+earliest-solved {p} z s levelled ts n f =
+    let best : BestTimes p (at ts) = s .from (keeps-agree (at ts) z (earliest-holds (s .closed) z) f) in
+    record {
+      count = n;
+      best = best;
+      levelled = sym (levelled (at ts) best);
+      least = λ u b e l. subst⁻¹ (λ x. x ≤ℤ u e) (f e l) (earliest-least z (s .into b) l);
+    }
 
 -- ---- the climb, with a matrix for the timetables left
 
@@ -128,7 +134,10 @@ module _ {p : Plan} (w : WithoutFault p) where
       let z : Stage 0 0 = record { grades = replicate (wishes p) 0; climbed = climb-start p (earliest D) (stands-earliest (w .some) s); matrix = D; stands = stands-same s (all-left p) } in
       let l : Stage TOP-LEVEL 0 = all-grades z TOP-LEVEL (omega arith) in
       let t : Times = earliest (l .matrix) in
-      (timesFrom t 0 (p .events), l .grades, earliest-solved w (l .climbed) (l .stands) (timesFrom t 0 (p .events)) (times-count t 0 (p .events)) (λ e h. times-at t 0 (p .events) e h ∙ ap t (omega arith)))
+      let ts : List ℤ = timesFrom t 0 (p .events) in
+      let best : Stands (p .events) (l .matrix) (BestTimes p) = stands-same (l .stands) (climb-best p (l .climbed)) in
+      let same : (e : ℕ) → e < p .events → at ts e ≡ t e = λ e h. times-at t 0 (p .events) e h ∙ ap t (omega arith) in
+      (ts, l .grades, earliest-solved (w .some) best (climb-levels p w (l .climbed)) ts (times-count t 0 (p .events)) same)
 
 -- where there is a timetable there are best ones, and one of them has the least time of every event
 pub best-exists : {p : Plan} → WithoutFault p → {t : Times} → Timetable p t → (ts : List ℤ) × (ls : List ℕ) × Solved p ts ls

@@ -1,5 +1,5 @@
--- The ladder of a plan: which wish a record is, its question as two bounds on a distance, and that the end of the climb is the outcome.
-use mathlib.Core.Path.{_≡_, refl, ap, sym, subst, subst⁻¹}
+-- The ladder of a plan: which wish a record is, its question as two bounds on a distance, and what is left at the end of the climb.
+use mathlib.Core.Path.{_≡_, refl, ap, subst, subst⁻¹}
 use mathlib.Core.Logic.{_↔_}
 use mathlib.Core.List.{List, [], _∷_}
 use Prim.Native.Nat.{ℕ, zero, suc, _≤_, _<_, suc-le-suc}
@@ -9,11 +9,10 @@ use native.Mathlib.Omega.{arith}
 use lib.ListN.{length, getD, take, set, replicate}
 use lib.Seq.{take-length}
 use lib.IntN.{ℤ, _-ℤ_}
-use lib.Signed.{_≤ℤ_}
 use Rattle.meaning.specs.Plan.{Record, rule, wish, nothing, Plan, recordAt, Times, Timetable, levelAt, levelsOf, levels, wishCount, wishes, TOP-LEVEL}
 use Rattle.meaning.specs.Ladder.{lv}
 use Rattle.meaning.specs.Peak.{SinglePeaked}
-use Rattle.meaning.specs.Outcome.{BestTimes, at, Solved}
+use Rattle.meaning.specs.Outcome.{BestTimes}
 use Rattle.meaning.specs.Run.{Run}
 use Rattle.meaning.specs.Faultless.{WithoutFault}
 use Rattle.meaning.specs.Climb.{wishesBefore, Left, Climbed, number, ClimbedTo}
@@ -116,15 +115,10 @@ module _ (p : Plan) where
   pub climb-next : {y : ℕ} {g : List ℕ} → ClimbedTo p y (length (p .records)) g → ClimbedTo p (suc y) 0 g
   climb-next {y} {g} c = reached-next (subst (λ (k : ℕ). Climbed p y k g) (all-wishes (p .records)) c)
 
-  -- the end of the ladder: the least times among the timetables left are the outcome, and the grades reached are its levels
-  pub ladder-solved : WithoutFault p → {g : List ℕ} → ClimbedTo p TOP-LEVEL 0 g → (ts : List ℤ) → length ts ≡ p .events → Left p g (at ts) →
-      ((u : Times) → Left p g u → (e : ℕ) → e < p .events → at ts e ≤ℤ u e) → Solved p ts g
-  ladder-solved good {g} c ts n m least = record {
-    count = n;
-    best = best (at ts) .0 m;
-    levelled = sym (reached-levels c (levels-count p (at ts)) (levels-mild good (at ts)) m);
-    least = λ u b. least u (best u .1 b);
-  }
-    where
-      best : (u : Times) → Left p g u ↔ BestTimes p u
-      best = reached-best c
+  -- the end of the ladder: the timetables left are the best ones
+  pub climb-best : {g : List ℕ} → ClimbedTo p TOP-LEVEL 0 g → (t : Times) → Left p g t ↔ BestTimes p t
+  climb-best c = reached-best c
+
+  -- and the grades reached are their levels
+  pub climb-levels : {g : List ℕ} → WithoutFault p → ClimbedTo p TOP-LEVEL 0 g → (t : Times) → BestTimes p t → levels p t ≡ g
+  climb-levels good c t b = reached-levels c (levels-count p t) (levels-mild good t) (climb-best c t .1 b)

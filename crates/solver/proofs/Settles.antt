@@ -86,15 +86,15 @@ chained-settled ts ls c = record {
 
 -- ---- the times and the levels
 
-module _ {p : M.Plan} {d : List ℤ} {before after : List ℕ} {r : ℕ} (w : WithoutFault p) (c : Climbed p d before after r) where
-  pub climbed-timing : {n : ℕ} {times : List ℤ} → n ≡ p .events → MOST-EVENTS ≤ length times → Timing n d times
+module _ {p : M.Plan} {d d′ : List ℤ} {before after : List ℕ} {r : ℕ} (w : WithoutFault p) (c : Climbed p d d′ before after r) where
+  pub climbed-timing : {n : ℕ} {times : List ℤ} → n ≡ p .events → MOST-EVENTS ≤ length times → Timing n d′ times
   climbed-timing e l = record { horizon = p .horizon; net = rw e (c .net); room = omega (arith, w .most) }
 
-  pub climbed-settled : {n : ℕ} {ts ts′ : List ℤ} (chain : List ℕ) → n ≡ p .events → MOST-EVENTS ≤ length ts → Swept (pos 0) ts ts′ 0 n (earliest (at d)) →
+  pub climbed-settled : {n : ℕ} {ts ts′ : List ℤ} (chain : List ℕ) → n ≡ p .events → MOST-EVENTS ≤ length ts → Swept (pos 0) ts ts′ 0 n (earliest (at d′)) →
       Settled p (areas ts before chain) (areas ts′ after chain) (Out.Solved r)
   climbed-settled chain e l f =
       let k = swept-written f (omega (arith, w .most)) in
-      let s = earliest-solved w (c .climbed) (c .stands) (k .front) (k .count ∙ e) (λ i q. k .entries i (omega arith)) in
+      let s = earliest-solved (w .some) (c .stands) (c .levelled) (k .front) (k .count ∙ e) (λ i q. k .entries i (omega arith)) in
       record {
         outcome = O.solved (k .front) (c .grades);
         right = s;

@@ -50,8 +50,11 @@ call c = c .before .before .before .before .before .before .before
 abbrev at : tie.After-run-past → ℕ
 at c = c .before .before .before .place-of .result
 
-run : (c : tie.After-run-past) → Run (call c .args .y) (levelsAt (call c .args .r) (now (call c .args .held))) (c .before .run-first .result - at c) (c .run-past .result - at c)
-run c = run-of (call c .args .r) (call c .pre .grade) (call c .pre .inside) (c .before .before .before .place-of .ensures) (c .before .before .place-of2 .ensures) (c .before .run-first .ensures) (c .run-past .ensures)
+run : (c : tie.After-run-past) →
+    Run (call c .args .y) (levelsAt (call c .args .r) (now (call c .args .held))) (c .before .run-first .result - at c) (c .run-past .result - at c)
+run c =
+    run-of (call c .args .r) (call c .pre .grade) (call c .pre .inside) (c .before .before .before .place-of .ensures) (c .before .before .place-of2 .ensures)
+    (c .before .run-first .ensures) (c .run-past .ensures)
 
 -- both ends are within the wish's levels
 found : (c : tie.After-run-past) → (c .before .run-first .result - at c ≤ call c .args .r .count) × (c .run-past .result - at c ≤ call c .args .r .count)
@@ -77,7 +80,9 @@ low c = back w32 (c .distance-of .result) (c .distance-of .ok) ∙ (rw (toZ-ofZ 
 
 high : (c : tie.After-distance-before) → let e = c .before .before .before .before in
     toZ w32 (ofZ w32 (c .distance-before .result)) ≡ (call e .args .r .lo +ℤ pos (e .run-past .result - at e)) -ℤ pos 1
-high c = back w32 (c .distance-before .result) (c .distance-before .ok) ∙ (rw (toZ-ofZ (lo-fits (call (c .before .before .before .before) .pre))) at (c .distance-before .ensures))
+high c =
+    back w32 (c .distance-before .result) (c .distance-before .ok) ∙
+    (rw (toZ-ofZ (lo-fits (call (c .before .before .before .before) .pre))) at (c .distance-before .ensures))
 
 narrow-requires : tie.Need-narrow-requires
 narrow-requires c κs =

@@ -25,7 +25,8 @@ climb-grade-requires : tie.Need-climb-grade-requires Inv-loop μ-loop
 climb-grade-requires c κs =
     let i = c .before .before in
     let g = i .before .before .before .before in
-    grades-ask (i .before .loop .inv) (g .before .before .before .before .pre) (g .clear-grades .ensures) (g .clear-grades .kept .1 .0) (omega (arith, i .loop-test .taken))
+    grades-ask (i .before .loop .inv) (g .before .before .before .before .pre) (g .clear-grades .ensures) (g .clear-grades .kept .1 .0)
+    (omega (arith, i .loop-test .taken))
 
 add-y : tie.Need-add-y Inv-loop μ-loop
 add-y c = omega arith
@@ -37,7 +38,8 @@ loop-again : tie.Need-loop-again Inv-loop μ-loop
 loop-again c =
     let g = c .before .before .before in
     let i = g .before .before .before in
-    grades-next (i .before .loop .inv) (omega (arith, i .loop-test .taken)) (g .climb-grade .ensures) (g .climb-grade .kept .0) (g .climb-grade .kept .1 .1 .1 .1 .0)
+    grades-next (i .before .loop .inv) (omega (arith, i .loop-test .taken)) (g .climb-grade .ensures) (g .climb-grade .kept .0)
+    (g .climb-grade .kept .1 .1 .1 .1 .0)
 
 same-length : tie.Need-same-length Inv-loop μ-loop
 same-length c = c .before .loop .inv .size

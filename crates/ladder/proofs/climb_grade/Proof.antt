@@ -43,7 +43,8 @@ loop-again : tie.Need-loop-again Inv-loop μ-loop
 loop-again c =
     let r = c .before .before .before in
     let i = r .before .before .before .before in
-    upto-next (i .before .before .before .before .pre) (i .before .loop .inv) (i .loop-test .taken) refl (r .climb-record .ensures) (r .climb-record .kept .0) (r .climb-record .kept .1 .1 .1 .1 .1 .1 .0)
+    upto-next (i .before .before .before .before .pre) (i .before .loop .inv) (i .loop-test .taken) refl (r .climb-record .ensures)
+    (r .climb-record .kept .0) (r .climb-record .kept .1 .1 .1 .1 .1 .1 .0)
 
 same-length : tie.Need-same-length Inv-loop μ-loop
 same-length c = c .before .loop .inv .size
