@@ -5,3 +5,4 @@ pub mod Levels
 pub mod Names
 pub mod Steps
 pub mod Outcomes
+pub mod One
