@@ -1,4 +1,4 @@
--- What is true of the printed form, and of bytes put into an area.
+-- What is true of the printed form, of bytes put into an area, and of every answer.
 pub mod Puts
 pub mod Times
 pub mod Levels
@@ -6,3 +6,4 @@ pub mod Names
 pub mod Steps
 pub mod Outcomes
 pub mod One
+pub mod CaseTwo

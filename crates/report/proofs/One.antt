@@ -41,7 +41,9 @@ pub record FreeChain (text before x y : List ℕ) (q r : ℕ) : Type 0 where
 pub one-right : (text : List ℕ) (o q : Outcome) → Right (read text) o → Right (read text) q → Same o q
 one-right text = one-outcome (read text) (record { faultless = λ p e. read-faultless text e })
 
-pub one-answer : {text before x y : List ℕ} {q r : ℕ} → Answered text before x q → Answered text before y r → ((q ≡ r) × (x ≡ y)) ⊎ FreeChain text before x y q r
+-- two answers to one text and area: equal, or the one freedom
+pub one-answer : {text before x y : List ℕ} {q r : ℕ} → Answered text before x q → Answered text before y r →
+    ((q ≡ r) × (x ≡ y)) ⊎ FreeChain text before x y q r
 one-answer {text} {before} {x} {y} {q} {r} a b = go (leb AREA (length before)) refl
   where
     p : Plan

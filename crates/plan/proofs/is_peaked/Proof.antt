@@ -28,7 +28,8 @@ returns : tie.Need-returns Inv-loop μ-loop
 returns c =
     let l = c .before .before .before .before .loop in
     let a = c .before .before .before .before .before .before in
-    peak-up (l .fallen) (l .x) (a .args .levels .now) (a .args .at) (l .i) (a .args .end) (c .before .before .before .loop-test .taken) (a .pre .1) (l .inv .1) (sym (c .before .up-again .ensures) ∙ c .if1 .taken)
+    peak-up (l .fallen) (l .x) (a .args .levels .now) (a .args .at) (l .i) (a .args .end)
+    (c .before .before .before .loop-test .taken) (a .pre .1) (l .inv .1) (sym (c .before .up-again .ensures) ∙ c .if1 .taken)
 
 has-fallen-requires : tie.Need-has-fallen-requires Inv-loop μ-loop
 has-fallen-requires c κs = search needs
@@ -44,7 +45,9 @@ loop-again c =
     let l = c .before .before .before .before .before .loop in
     let a = c .before .before .before .before .before .before .before in (
       omega (arith, c .before .before .before .before .loop-test .taken),
-      rw (c .has-fallen .ensures) (peak-on (l .fallen) (l .x) (a .args .levels .now) (a .args .at) (l .i) (a .args .end) (c .before .before .before .before .loop-test .taken) (a .pre .1) (l .inv .1) (sym (c .before .before .up-again .ensures) ∙ c .before .if1 .left)),
+      rw (c .has-fallen .ensures)
+          (peak-on (l .fallen) (l .x) (a .args .levels .now) (a .args .at) (l .i) (a .args .end)
+          (c .before .before .before .before .loop-test .taken) (a .pre .1) (l .inv .1) (sym (c .before .before .up-again .ensures) ∙ c .before .if1 .left)),
     )
 
 returns-2 : tie.Need-returns-2 Inv-loop μ-loop
