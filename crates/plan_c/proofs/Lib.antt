@@ -1,1 +1,2 @@
--- The proofs of `plan_c` share nothing.
+-- What is true of every reply of `plan_c`.
+pub mod One

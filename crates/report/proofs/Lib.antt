@@ -1,7 +1,9 @@
--- What is true of the printed form, and of bytes put into an area.
+-- What is true of the printed form, of bytes put into an area, and of every answer.
 pub mod Puts
 pub mod Times
 pub mod Levels
 pub mod Names
 pub mod Steps
 pub mod Outcomes
+pub mod One
+pub mod CaseTwo

@@ -79,7 +79,7 @@ solved-plan : (r : Reading) {ts : List ℤ} {ls : List ℕ} → Right r (solved 
 solved-plan (plan p) h = (refl, h)
 solved-plan (refused m k) h = absurd h
 
-none-plan : (r : Reading) {cs : List ℕ} → Right r (none cs) → (r ≡ plan (planIn r)) × Chain (planIn r) cs
+pub none-plan : (r : Reading) {cs : List ℕ} → Right r (none cs) → (r ≡ plan (planIn r)) × Chain (planIn r) cs
 none-plan (plan p) h = (refl, h)
 none-plan (refused m k) h = absurd h
 

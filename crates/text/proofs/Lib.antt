@@ -1,4 +1,4 @@
--- Laws of parts of a list of bytes: pieces, digits, numbers and words.
+-- Laws of parts of a list of bytes: pieces, digits, numbers and words; and that two results of one promise are equal.
 pub mod Slices
 pub mod Cuts
 pub mod Runs
@@ -7,3 +7,4 @@ pub mod Sames
 pub mod Forms
 pub mod Decimals
 pub mod Writes
+pub mod One

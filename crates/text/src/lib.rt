@@ -30,7 +30,7 @@ pub fn find(s: &[u8], at: usize, end: usize, b: u8) -> usize
 }
 
 // What a run of digits says: its value, or the place where reading stopped.
-pub enum Digits {
+enum Digits {
     Value(u32),
     Stopped(usize),
 }
@@ -63,7 +63,7 @@ fn wide(x: u8) -> u32
 }
 
 // 1 to 7 digits, with no leading zero except in 0 itself.
-pub fn read_digits(s: &[u8], at: usize, end: usize) -> Digits
+fn read_digits(s: &[u8], at: usize, end: usize) -> Digits
     requires { ⌜ (at ≤ end) × (end ≤ length (now s)) ⌝ }
     ensures { λ r. ⌜ (digitsAs r ≡ digitsOf (slice at end (now (s .entry)))) × (digitsPlace end r ≡ at + digitsStop (slice at end (now (s .entry)))) ⌝ }
 {

@@ -10,13 +10,13 @@ use Rattle.plan.proofs.is_peaked.Statement.{statement}
 use Rattle.plan.proofs.is_peaked.Tie as tie
 
 abbrev Inv-loop : tie.InvT-loop
-Inv-loop levels at end fallen₀ x₀ i₀ fallen x i = (at ≤ i) × (i ≤ end) × (peakedFrom fallen x (slice i end levels) ≡ peaked (slice at end levels))
+Inv-loop levels at end fallen₀ x₀ i₀ fallen x i = (i ≤ end) × (peakedFrom fallen x (slice i end levels) ≡ peaked (slice at end levels))
 
 abbrev μ-loop : tie.MeasureT-loop
 μ-loop levels at end fallen₀ x₀ i₀ fallen x i = end - i
 
 loop-holds : tie.Need-loop-holds Inv-loop μ-loop
-loop-holds c = (omega arith, c .before .pre .0, peak-start _)
+loop-holds c = (omega arith, peak-start _)
 
 shared-slice-read-z : tie.Need-shared-slice-read-z Inv-loop μ-loop
 shared-slice-read-z c = omega arith
@@ -28,7 +28,8 @@ returns : tie.Need-returns Inv-loop μ-loop
 returns c =
     let l = c .before .before .before .before .loop in
     let a = c .before .before .before .before .before .before in
-    peak-up (l .fallen) (l .x) (a .args .levels .now) (a .args .at) (l .i) (a .args .end) (c .before .before .before .loop-test .taken) (a .pre .1) (l .inv .2) (sym (c .before .up-again .ensures) ∙ c .if1 .taken)
+    peak-up (l .fallen) (l .x) (a .args .levels .now) (a .args .at) (l .i) (a .args .end)
+    (c .before .before .before .loop-test .taken) (a .pre .1) (l .inv .1) (sym (c .before .up-again .ensures) ∙ c .if1 .taken)
 
 has-fallen-requires : tie.Need-has-fallen-requires Inv-loop μ-loop
 has-fallen-requires c κs = search needs
@@ -43,16 +44,17 @@ loop-again : tie.Need-loop-again Inv-loop μ-loop
 loop-again c =
     let l = c .before .before .before .before .before .loop in
     let a = c .before .before .before .before .before .before .before in (
-      omega arith,
       omega (arith, c .before .before .before .before .loop-test .taken),
-      rw (c .has-fallen .ensures) (peak-on (l .fallen) (l .x) (a .args .levels .now) (a .args .at) (l .i) (a .args .end) (c .before .before .before .before .loop-test .taken) (a .pre .1) (l .inv .2) (sym (c .before .before .up-again .ensures) ∙ c .before .if1 .left)),
+      rw (c .has-fallen .ensures)
+          (peak-on (l .fallen) (l .x) (a .args .levels .now) (a .args .at) (l .i) (a .args .end)
+          (c .before .before .before .before .loop-test .taken) (a .pre .1) (l .inv .1) (sym (c .before .before .up-again .ensures) ∙ c .before .if1 .left)),
     )
 
 returns-2 : tie.Need-returns-2 Inv-loop μ-loop
 returns-2 c =
     let l = c .before .loop in
     let a = c .before .before .before in
-    peak-end (l .fallen) (l .x) (a .args .levels .now) (a .args .at) (l .i) (a .args .end) (omega (arith, c .loop-test .left, l .inv .1)) (l .inv .2)
+    peak-end (l .fallen) (l .x) (a .args .levels .now) (a .args .at) (l .i) (a .args .end) (omega (arith, c .loop-test .left, l .inv .0)) (l .inv .1)
 
 pub is-peaked-spec : {M : Type 1} → statement M
 is-peaked-spec =

@@ -1,0 +1,66 @@
+-- Case 2 of document 01, section 7, byte for byte: the printed form of the outcome in the table of known plans is the output that the document shows, by
+-- computation; and since that outcome is the only right one, it is what `answer` leaves for this text in every area that is long enough.
+use mathlib.Core.Path.{_≡_, refl, ap, _∙_}
+use mathlib.Core.List.{List, List·Memᴰ, List·Memᴰ·head, List·Memᴰ·tail}
+use Prim.Native.Nat.{ℕ, _≤_}
+use Prim.Native.String.{String}
+use native.Mathlib.Omega.{arith}
+use lib.ListN.{length, getD}
+use lib.IntN.{ℤ}
+use Rattle.meaning.specs.Peak.{peaked}
+use Rattle.meaning.specs.Reading.{read, split, digitsOf, numberOf, lineForm, lineStep}
+use Rattle.meaning.specs.Outcome.{Outcome, solved, refusal, over}
+use Rattle.meaning.specs.Known.{Known, bytes, table}
+use Rattle.meaning.proofs.KnownRight.{known-right}
+use Rattle.meaning.proofs.Promises.{Same, equal, chains}
+use Rattle.plan.specs.Held.{planIn}
+use Rattle.text.specs.Written.{digitsWithin, decimal}
+use Rattle.report.specs.Printed.{printed}
+use Rattle.report.specs.Answer.{AREA, Answered}
+use Rattle.report.proofs.One.{one-right}
+
+-- ---- a known plan that is solved
+
+-- the form of the outcome that the table has for a known plan
+abbrev pub knownForm : Known → List ℕ
+knownForm k = printed (planIn (read (bytes (k .text)))) (k .outcome)
+
+-- an outcome that is the same as a solved one is that one
+same-solved : {o q : Outcome} {ts : List ℤ} {ls : List ℕ} → Same o q → q ≡ solved ts ls → o ≡ q
+same-solved equal e = refl
+same-solved chains e = let z : _≡_ {A = ℕ} 0 1 = cc in absurd (omega arith)
+
+-- what `answer` leaves for a known plan that is solved is the form of the table's outcome, and its length is returned
+pub known-answered : (k : Known) → List·Memᴰ k table → {ts : List ℤ} {ls : List ℕ} → k .outcome ≡ solved ts ls → {before after : List ℕ} {r : ℕ} →
+    Answered (bytes (k .text)) before after r → AREA ≤ length before → (r ≡ length (knownForm k)) × (after ≡ over (knownForm k) before)
+known-answered k m e {before} a l =
+    let t = a .long l in
+    let s = same-solved (one-right (bytes (k .text)) (t .outcome) (k .outcome) (t .right) (known-right k m .right)) e in
+    let f = ap (printed (planIn (read (bytes (k .text))))) s in
+    (t .count ∙ ap length f, t .written ∙ ap (λ (x : List ℕ). over x before) f)
+
+-- ---- case 2
+
+-- the second row of the table
+abbrev pub caseTwo : Known
+caseTwo = getD table 1 (record { text = ""; outcome = refusal 2 1 })
+
+-- it is there
+case-two-known : List·Memᴰ caseTwo table
+case-two-known = List·Memᴰ·tail (List·Memᴰ·head refl)
+
+-- its whole output
+abbrev pub OUTPUT : String
+OUTPUT = "solved\t4\t2\nat\t0\t0\nat\t1\t3\nat\t2\t3\nat\t3\t7\nlevel\t2\t3\nlevel\t3\t2\n"
+
+-- the table's outcome prints as the document shows it
+pub case-two-printed : knownForm caseTwo ≡ bytes OUTPUT
+unfolding printed digitsWithin decimal read split digitsOf numberOf lineForm lineStep peaked
+case-two-printed = refl
+
+-- and so does what `answer` leaves: these bytes at the front, all else as before, and their number is returned
+pub case-two-answered : {before after : List ℕ} {r : ℕ} → Answered (bytes (caseTwo .text)) before after r → AREA ≤ length before →
+    (r ≡ length (bytes OUTPUT)) × (after ≡ over (bytes OUTPUT) before)
+case-two-answered {before} a l =
+    let f = known-answered caseTwo case-two-known refl a l in
+    (f .0 ∙ ap length case-two-printed, f .1 ∙ ap (λ (x : List ℕ). over x before) case-two-printed)
