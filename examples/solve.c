@@ -1,12 +1,17 @@
-/* Solves the plan in a file, or from standard input, and prints it as the program `timetable` does.
+/* Solves the plan in a file, or from standard input where none is named, and prints it as the program `timetable` does.
  *
  *     cc -Iinclude -o solve examples/solve.c target/staticlib/libsolver.a
- *     ./solve examples/update.plan */
+ *     ./solve examples/update.plan
+ *
+ * The exit status is 0 where the plan is solved, 1 where there is no timetable, 2 where the text is refused, and 3 where the
+ * text could not be read or the outcome not be written whole; standard error then says why. Of a text that could not be read
+ * to its end nothing is printed. */
 #include <inttypes.h>
 #include <stdio.h>
-#include <stdlib.h>
 
 #include "timetable.h"
+
+enum { SOLVED, NO_TIMETABLE, REFUSED, FAILED };
 
 /* One byte more than is allowed, so that a longer text is seen to be too long; and a 0 at the end. */
 static char text[TIMETABLE_TEXT + 2];
@@ -65,14 +70,8 @@ static void print_solved(const int64_t *times, const uint8_t *levels, size_t wis
     }
 }
 
-int main(int count, char **words) {
-    FILE *file = count > 1 ? fopen(words[1], "rb") : stdin;
-    if (file == NULL) {
-        perror(words[1]);
-        return EXIT_FAILURE;
-    }
-    size_t length = fread(text, 1, TIMETABLE_TEXT + 1, file);
-
+/* Solves the text and prints its outcome. */
+static int solve(size_t length) {
     int64_t times[TIMETABLE_TIMES];
     uint8_t levels[TIMETABLE_LEVELS];
     uint16_t chain[TIMETABLE_CHAIN];
@@ -81,13 +80,39 @@ int main(int count, char **words) {
                                      chain, TIMETABLE_CHAIN, &place);
     if (number == TIMETABLE_SOLVED) {
         print_solved(times, levels, place);
-    } else if (number == TIMETABLE_NONE) {
+        return SOLVED;
+    }
+    if (number == TIMETABLE_NONE) {
         printf("none\t%zu\n", place);
         for (size_t step = 0; step < place; step++) {
             print_step(chain[step]);
         }
-    } else {
-        printf("refused\t%d\t%zu\n", number, place);
+        return NO_TIMETABLE;
     }
-    return EXIT_SUCCESS;
+    printf("refused\t%d\t%zu\n", number, place);
+    return REFUSED;
+}
+
+/* Says what could not be read or written, and why. */
+static int failed(const char *name) {
+    perror(name);
+    return FAILED;
+}
+
+int main(int count, char **words) {
+    const char *name = count > 1 ? words[1] : "standard input";
+    FILE *file = count > 1 ? fopen(name, "rb") : stdin;
+    if (file == NULL) {
+        return failed(name);
+    }
+    /* A short count comes at the end of the text, but also where a read fails: only `ferror` tells. */
+    size_t length = fread(text, 1, TIMETABLE_TEXT + 1, file);
+    if (ferror(file)) {
+        return failed(name);
+    }
+    int status = solve(length);
+    if (fflush(stdout) != 0 || ferror(stdout) || fclose(stdout) != 0) {
+        return failed("standard output");
+    }
+    return status;
 }

@@ -2,7 +2,12 @@
 //! search.
 mod compare;
 mod example;
+mod input;
+mod output;
+mod process;
 mod program;
+mod reads;
+mod script;
 mod stack;
 
 use compare::{compare, compare_with, Lengths, LEAST};
@@ -14,6 +19,7 @@ use outside::plan::Plan;
 use outside::reader::{read, Refusal};
 use outside::tally::{same, Group, Tally};
 use outside::{damage, exhaustive, known};
+use program::Program;
 use std::process::ExitCode;
 
 fn main() -> ExitCode {
@@ -32,9 +38,28 @@ fn main() -> ExitCode {
     tally.group("paths through all events", paths);
     tally.group("damaged texts", |group| damaged_texts(group, 8_000));
     tally.group("full plans in a thread with a stack of 64 KB", stack::small_stack);
-    tally.group("the program timetable", program::printed_forms);
-    tally.group("the C example", example::c_program);
+    the_program(&mut tally);
+    the_example(&mut tally);
+    tally.group("the script examples/run", script::script);
     tally.finish()
+}
+
+fn the_program(tally: &mut Tally) {
+    let program = Program::timetable();
+    tally.group("the program timetable", |group| program::printed_forms(group, &program));
+    tally.group("the program's input", |group| input::inputs(group, &program));
+    tally.group("the program's reads, interrupted and failing", |group| reads::answered(group, &program));
+    tally.group("the program's output", |group| output::outputs(group, &program));
+}
+
+fn the_example(tally: &mut Tally) {
+    let program = match example::c_program() {
+        Ok(program) => program,
+        Err(why) => return tally.group("the C example", |group| group.case(b"", Err(why))),
+    };
+    tally.group("the C example", |group| example::plans(group, &program));
+    tally.group("the C example's input", |group| input::inputs(group, &program));
+    tally.group("the C example's output", |group| output::outputs(group, &program));
 }
 
 fn known_plans(group: &mut Group, cases: Vec<(Vec<u8>, Outcome)>) {
