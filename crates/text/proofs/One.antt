@@ -2,14 +2,11 @@
 -- written, and the number that was read or the place where reading stopped.
 use mathlib.Core.Path.{_≡_, sym, ap, _∙_}
 use mathlib.Core.List.{List}
-use Prim.Native.Nat.{ℕ, _+_}
+use Prim.Native.Nat.{ℕ}
 use native.Mathlib.Omega.{arith}
-use lib.Seq.{slice}
-use Rattle.meaning.specs.Reading.{numberOf}
 use Rattle.text.specs.declared.Number.{Number}
 use Rattle.text.specs.declared.Number.the-variants.{Value, Stopped}
-use Rattle.text.specs.Answers.{numberAs, numberPlace}
-use Rattle.text.specs.Number.{numberStop}
+use Rattle.text.specs.Answers.{numberAs, numberPlace, NumberRead}
 use Rattle.text.specs.Written.{Wrote}
 
 -- the same bytes written at the same place end at the same place and leave the same area
@@ -23,10 +20,6 @@ same-number end (Value v) (Stopped j) n p = let z : _≡_ {A = ℕ} 0 1 = cc in 
 same-number end (Stopped i) (Value w) n p = let z : _≡_ {A = ℕ} 0 1 = cc in absurd (omega arith)
 same-number end (Stopped i) (Stopped j) n p = ap Stopped p
 
--- what `read_number` promises of its answer to the bytes of s from at up to end
-abbrev Promised : List ℕ → ℕ → ℕ → Number → Type 0
-Promised s at end r = (numberAs r ≡ numberOf (slice at end s)) × (numberPlace end r ≡ at + numberStop (slice at end s))
-
 -- any two answers of `read_number` to the same bytes are equal
-pub one-number : (s : List ℕ) (at end : ℕ) (q r : Number) → Promised s at end q → Promised s at end r → q ≡ r
+pub one-number : (s : List ℕ) (at end : ℕ) (q r : Number) → NumberRead s at end q → NumberRead s at end r → q ≡ r
 one-number s at end q r a b = same-number end q r (a .0 ∙ sym (b .0)) (a .1 ∙ sym (b .1))

@@ -1,7 +1,12 @@
 -- What the answers that are enums say: a number or none, and the place where reading stopped.
-use Prim.Native.Nat.{ℕ}
+use mathlib.Core.Path.{_≡_}
+use mathlib.Core.List.{List}
+use Prim.Native.Nat.{ℕ, _+_}
 use mathlib.Core.Option.{Option, none, some}
 use lib.IntN.{ℤ}
+use lib.Seq.{slice}
+use Rattle.meaning.specs.Reading.{numberOf}
+use Rattle.text.specs.Number.{numberStop}
 use Rattle.text.specs.declared.Digits.{Digits}
 use Rattle.text.specs.declared.Digits.the-variants as D
 use Rattle.text.specs.declared.Number.{Number}
@@ -23,3 +28,7 @@ digitsPlace e (D.Stopped p) = p
 abbrev pub numberPlace : ℕ → Number → ℕ
 numberPlace e (N.Value v) = e
 numberPlace e (N.Stopped p) = p
+
+-- what `read_number` promises of its answer to the bytes of s from at up to end
+abbrev pub NumberRead : List ℕ → ℕ → ℕ → Number → Type 0
+NumberRead s at end r = (numberAs r ≡ numberOf (slice at end s)) × (numberPlace end r ≡ at + numberStop (slice at end s))

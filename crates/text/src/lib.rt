@@ -8,11 +8,11 @@ ghost use lib.Signed.{_<ℤ_};
 ghost use lib.ListN.{length};
 ghost use lib.Seq.{slice};
 ghost use Rattle.text.specs.Bytes.{until};
-ghost use Rattle.meaning.specs.Reading.{TAB, same, runFrom, digitsOf, numberOf};
+ghost use Rattle.meaning.specs.Reading.{TAB, same, runFrom, digitsOf};
 ghost use Rattle.text.specs.Words.{wordOf};
-ghost use Rattle.text.specs.Answers.{digitsAs, numberAs, digitsPlace, numberPlace};
+ghost use Rattle.text.specs.Answers.{digitsAs, digitsPlace, NumberRead};
 ghost use Rattle.text.specs.Written.{decimal, decimalZ, Wrote};
-ghost use Rattle.text.specs.Number.{runStop, digitsStop, numberStop};
+ghost use Rattle.text.specs.Number.{runStop, digitsStop};
 
 // The place of the first byte b of s from at up to end; end where there is none.
 pub fn find(s: &[u8], at: usize, end: usize, b: u8) -> usize
@@ -90,7 +90,7 @@ pub enum Number {
 
 pub fn read_number(s: &[u8], at: usize, end: usize) -> Number
     requires { ⌜ (at ≤ end) × (end ≤ length (now s)) ⌝ }
-    ensures { λ r. ⌜ (numberAs r ≡ numberOf (slice at end (now (s .entry)))) × (numberPlace end r ≡ at + numberStop (slice at end (now (s .entry)))) ⌝ }
+    ensures { λ r. ⌜ NumberRead (now (s .entry)) at end r ⌝ }
 {
     if at == end {
         return Number::Stopped(at);
