@@ -41,12 +41,12 @@ module _ {A : Type 0} (new old : List A) {after : List A} (k : ℕ) (e : after �
 
 -- ---- areas that are long enough
 
-record LongEnough (a : Areas) : Type 0 where
-  for-times : MOST-EVENTS ≤ length (a .times)
-  for-levels : MOST-RECORDS ≤ length (a .levels)
-  for-chain : MOST-EVENTS ≤ length (a .chain)
+pub record LongEnough (a : Areas) : Type 0 where
+  pub for-times : MOST-EVENTS ≤ length (a .times)
+  pub for-levels : MOST-RECORDS ≤ length (a .levels)
+  pub for-chain : MOST-EVENTS ≤ length (a .chain)
 
-long-areas : (a : Areas) → longEnough a ≡ true → LongEnough a
+pub long-areas : (a : Areas) → longEnough a ≡ true → LongEnough a
 long-areas a e =
     let x = and-yes (leb MOST-EVENTS (length (a .times)) && leb MOST-RECORDS (length (a .levels))) (leb MOST-EVENTS (length (a .chain))) (subst T (sym e) tt) in
     let y = and-yes (leb MOST-EVENTS (length (a .times))) (leb MOST-RECORDS (length (a .levels))) (x .0) in

@@ -1,14 +1,13 @@
 -- From what the parts of `settle` and `solve` promise one another to the outcome of a plan, and from that to the promise.
 use mathlib.Core.Path.{_≡_, refl, sym, ap, _∙_}
-use mathlib.Core.Bool.{false}
+use mathlib.Core.Bool.{Bool, true, false}
 use mathlib.Core.List.{List}
 use Prim.Native.Nat.{ℕ, zero, suc, _+_, _*_, _-_, _≤_, _<_}
 use native.Mathlib.Omega.{arith}
 use lib.ListN.{length}
 use lib.IntN.{ℤ, pos}
-use borrow.Author.Tests.{le-leb, lt-leb}
 use Rattle.meaning.specs.Plan as M
-use Rattle.meaning.specs.Plan.{MOST-EVENTS, MOST-RECORDS, MOST-LEVELS-TOGETHER}
+use Rattle.meaning.specs.Plan.{MOST-EVENTS, MOST-LEVELS-TOGETHER}
 use Rattle.meaning.specs.Reading.{plan, refused, read}
 use Rattle.meaning.specs.Distances.{earliest}
 use Rattle.meaning.specs.Outcome as O
@@ -20,7 +19,8 @@ use Rattle.meaning.proofs.Refusals.{refused-number}
 use Rattle.meaning.proofs.Solve.{earliest-solved}
 use Rattle.plan.specs.declared.Plan.{Plan}
 use Rattle.plan.specs.declared.Answer.{Answer}
-use Rattle.plan.specs.declared.Verdict.the-variants.{Taken, Refused}
+use Rattle.plan.specs.declared.Verdict.{Verdict}
+use Rattle.plan.specs.declared.Verdict.the-variants as Said
 use Rattle.plan.specs.Held.{Read, planIn}
 use Rattle.plan.proofs.Answers.{read-taken, read-holds, read-held}
 use Rattle.distances.specs.Matrix.{at, Started, Timing}
@@ -32,7 +32,7 @@ use Rattle.bounds.specs.Listed.{Listed}
 use Rattle.bounds.specs.Tried.{Trying, Tried}
 use Rattle.ladder.specs.Climbed.{Ready, Climbed}
 use Rattle.ladder.specs.Memory.{InMemory}
-use Rattle.solver.specs.Settled.{named, Settled, Solves}
+use Rattle.solver.specs.Settled.{named, heardAs, Settled, Solves}
 use Rattle.solver.specs.declared.Outcome.{Outcome}
 use Rattle.solver.specs.declared.Outcome.the-variants as Out
 use Rattle.bounds.proofs.Ends.{Chained, start-trying, all-net, all-stands, clash-broken, found-chained}
@@ -106,45 +106,42 @@ module _ {p : M.Plan} {d d′ : List ℤ} {before after : List ℕ} {r : ℕ} (w
 
 -- ---- the promise
 
--- 7 for an area too short
-too-short : (text : List ℕ) (a : Areas) → longEnough a ≡ false → Solves text a a (Out.Refused 7 0)
-too-short text a e = record { promise = record { outcome = O.refusal 7 0; right = rw e (refl, refl); numbered = refl; placed = refl; writes = refl }; variant = refl }
-
 -- a refusal is named by its number
 refusal-named : (k line : ℕ) → 2 ≤ k → Out.Refused k line ≡ named k line
 refusal-named zero line h = absurd (omega arith)
 refusal-named (suc zero) line h = absurd (omega arith)
 refusal-named (suc (suc k)) line h = refl
 
-module _ (text : List ℕ) (ts : List ℤ) (ls cs : List ℕ) where
-  pub times-short : length ts < MOST-EVENTS → Solves text (areas ts ls cs) (areas ts ls cs) (Out.Refused 7 0)
-  times-short h = too-short text (areas ts ls cs) (rw (lt-leb MOST-EVENTS (length ts) h))
+-- what is heard where areas are long enough, or not, is a plan only where both are
+pub heard-taken : (long : Bool) (v : Verdict) → heardAs long v ≡ Said.Taken → (long ≡ true) × (v ≡ Said.Taken)
+heard-taken true v e = (refl, e)
+heard-taken false v e = let z : _≡_ {A = ℕ} 0 1 = cc in absurd (omega arith)
 
-  pub levels-short : MOST-EVENTS ≤ length ts → length ls < MOST-RECORDS → Solves text (areas ts ls cs) (areas ts ls cs) (Out.Refused 7 0)
-  levels-short g h = too-short text (areas ts ls cs) (rw (le-leb MOST-EVENTS (length ts) g, lt-leb MOST-RECORDS (length ls) h))
+module _ (text : List ℕ) (a : Areas) where
+  refused-solves : {k line : ℕ} → 2 ≤ k → heard a text ≡ refused k line → Solves text a a (Out.Refused k line)
+  refused-solves {k} {line} l e = record {
+    promise = record { outcome = O.refusal k line; right = rw e (refl, refl); numbered = refl; placed = refl; writes = refl };
+    variant = refusal-named k line l;
+  }
 
-  pub chain-short : MOST-EVENTS ≤ length ts → MOST-RECORDS ≤ length ls → length cs < MOST-EVENTS → Solves text (areas ts ls cs) (areas ts ls cs) (Out.Refused 7 0)
-  chain-short f g h = too-short text (areas ts ls cs) (rw (le-leb MOST-EVENTS (length ts) f, le-leb MOST-RECORDS (length ls) g, lt-leb MOST-EVENTS (length cs) h))
+  -- a refusal that is heard is the first in the order of section 3
+  pub heard-refused : (long : Bool) (v : Verdict) {k line : ℕ} → long ≡ longEnough a → (v ≡ Said.Refused k line → read text ≡ refused k line) →
+      heardAs long v ≡ Said.Refused k line → Solves text a a (Out.Refused k line)
+  heard-refused true v l f e = refused-solves (refused-number text (f e) .low) (rw (← l) (f e))
+  heard-refused false v {k} {line} l f e =
+      let n : 7 ≡ k = cc in
+      let p : 0 ≡ line = cc in
+      refused-solves (omega arith) (rw (← l, ← n, ← p))
 
-  module _ (f : MOST-EVENTS ≤ length ts) (g : MOST-RECORDS ≤ length ls) (h : MOST-EVENTS ≤ length cs) where
-    all-heard : heard (areas ts ls cs) text ≡ read text
-    all-heard = rw (le-leb MOST-EVENTS (length ts) f, le-leb MOST-RECORDS (length ls) g, le-leb MOST-EVENTS (length cs) h)
-
-    pub refused-solves : {k line : ℕ} → read text ≡ refused k line → Solves text (areas ts ls cs) (areas ts ls cs) (Out.Refused k line)
-    refused-solves {k} {line} e = record {
-      promise = record { outcome = O.refusal k line; right = rw (all-heard, e) (refl, refl); numbered = refl; placed = refl; writes = refl };
-      variant = refusal-named k line (refused-number text e .low);
-    }
-
-    pub settled-solves : {p : M.Plan} {after : Areas} {r : Outcome} → read text ≡ plan p → Settled p (areas ts ls cs) after r → Solves text (areas ts ls cs) after r
-    settled-solves e s = record {
-      promise = record { outcome = s .outcome; right = rw (all-heard, e) (s .right); numbered = s .numbered; placed = s .placed; writes = s .writes };
-      variant = s .variant;
-    }
+  pub settled-solves : longEnough a ≡ true → {p : M.Plan} {after : Areas} {r : Outcome} → read text ≡ plan p → Settled p a after r → Solves text a after r
+  settled-solves l e s = record {
+    promise = record { outcome = s .outcome; right = rw (l, e) (s .right); numbered = s .numbered; placed = s .placed; writes = s .writes };
+    variant = s .variant;
+  }
 
 -- ---- what the reader leaves
 
-pub read-memory : {text before after : List ℕ} {a : Answer} → Read text before after a → MOST-LEVELS-TOGETHER ≤ length before → a .verdict ≡ Taken → InMemory (planIn (read text)) (a .plan) after
+pub read-memory : {text before after : List ℕ} {a : Answer} → Read text before after a → MOST-LEVELS-TOGETHER ≤ length before → a .verdict ≡ Said.Taken → InMemory (planIn (read text)) (a .plan) after
 read-memory {text} r l e =
     let v = read-held r l in
     record { holds = read-holds r l; faultless = read-faultless text (read-taken r l e); room = omega (arith, v .long); levels = v .done }

@@ -1,5 +1,6 @@
 -- The outcome as document 01 numbers it, and the outcome of a plan in memory.
 use mathlib.Core.Path.{_≡_}
+use mathlib.Core.Bool.{Bool, cond}
 use mathlib.Core.List.{List}
 use Prim.Native.Nat.{ℕ, zero, suc, _≤_}
 use lib.ListN.{length}
@@ -10,6 +11,8 @@ use Rattle.meaning.specs.Reading.{plan}
 use Rattle.meaning.specs.Outcome as O
 use Rattle.meaning.specs.Outcome.{Areas, Right, number, place, written, Promise}
 use Rattle.plan.specs.declared.Plan.{Plan}
+use Rattle.plan.specs.declared.Verdict.{Verdict}
+use Rattle.plan.specs.declared.Verdict.the-variants as Said
 use Rattle.ladder.specs.Memory.{InMemory}
 use Rattle.solver.specs.declared.Outcome.{Outcome}
 use Rattle.solver.specs.declared.Outcome.the-variants.{Solved, NoTimetable, Refused}
@@ -30,6 +33,10 @@ abbrev pub named : ℕ → ℕ → Outcome
 named zero w = Solved w
 named (suc zero) steps = NoTimetable steps
 named (suc (suc k)) line = Refused (suc (suc k)) line
+
+-- 7 at place 0 for an area too short comes first; then the text
+abbrev pub heardAs : Bool → Verdict → Verdict
+heardAs long v = cond long v (Said.Refused 7 0)
 
 pub record Settling (h : Plan) (held : List ℕ) (times : List ℤ) (levels chain : List ℕ) : Type 0 where
   pub plan : M.Plan

@@ -1,9 +1,9 @@
 // The entry point with the promise: a text is read, its bounds are added, the ladder is climbed.
 ghost use mathlib.Core.Path.{_≡_};
 ghost use Rattle.meaning.specs.Plan as M;
-ghost use Rattle.meaning.specs.Outcome.{Promise, areas};
+ghost use Rattle.meaning.specs.Outcome.{Promise, areas, longEnough};
 ghost use Rattle.ladder.specs.Memory.{InMemory};
-ghost use Rattle.solver.specs.Settled.{numberOf, placeOf, Settling, Settled, Solves};
+ghost use Rattle.solver.specs.Settled.{numberOf, placeOf, heardAs, Settling, Settled, Solves};
 use plan::Plan;
 use plan::Verdict;
 
@@ -39,24 +39,39 @@ fn settle(h: Plan, held: &[u8], times: &mut [i64], levels: &mut [u8], chain: &mu
     Outcome::Solved(count)
 }
 
+// Whether the three areas have room for any outcome.
+fn long_enough(times: &[i64], levels: &[u8], chain: &[u16]) -> bool
+    ensures { λ r. ⌜ r ≡ longEnough (areas (now (times .entry)) (now (levels .entry)) (now (chain .entry))) ⌝ }
+{
+    if times.len() < MOST_EVENTS {
+        return false;
+    }
+    if levels.len() < plan::MOST_RECORDS {
+        return false;
+    }
+    MOST_EVENTS <= chain.len()
+}
+
+// 7 for an area too short comes before what the reader says of the text.
+fn heard(long: bool, verdict: Verdict) -> Verdict
+    ensures { λ r. ⌜ r ≡ heardAs long verdict ⌝ }
+{
+    if long {
+        return verdict;
+    }
+    Verdict::Refused(7, 0)
+}
+
 // The least times of a best timetable of the plan text, and its levels; or the chain of bounds that leave no timetable; or why the text or an area is refused.
 pub fn solve(text: &[u8], times: &mut [i64], levels: &mut [u8], chain: &mut [u16]) -> Outcome
     ensures { λ r. ⌜ Solves (now (text .entry)) (areas (now (times .entry)) (now (levels .entry)) (now (chain .entry)))
         (areas (now (times .exit)) (now (levels .exit)) (now (chain .exit))) r ⌝ }
 {
-    if times.len() < MOST_EVENTS {
-        return Outcome::Refused(7, 0);
-    }
-    if levels.len() < plan::MOST_RECORDS {
-        return Outcome::Refused(7, 0);
-    }
-    if chain.len() < MOST_EVENTS {
-        return Outcome::Refused(7, 0);
-    }
+    let long = long_enough(times, levels, chain);
     let mut held = [0u8; plan::MOST_LEVELS];
     let answer = plan::read(text, &mut held);
     let verdict = answer.verdict;
-    match verdict {
+    match heard(long, verdict) {
         Verdict::Taken => settle(answer.plan, &held, times, levels, chain),
         Verdict::Refused(number, line) => Outcome::Refused(number, line),
     }

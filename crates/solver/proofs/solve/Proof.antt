@@ -1,22 +1,21 @@
--- `solver::solve` meets its contract: an area too short, a refusal of the reader, or the outcome of the plan that was read.
+-- `solver::solve` meets its contract: a refusal that is heard, of an area or of the text, or the outcome of the plan that was read.
+use mathlib.Core.Path.{_≡_, sym, _∙_}
+use mathlib.Core.Bool.{true}
 use native.Mathlib.Nat.{le-refl}
 use borrow.Author.Needs.{needs}
 use Rattle.meaning.specs.Plan.{MOST-LEVELS-TOGETHER}
 use Rattle.meaning.specs.Reading.{read}
+use Rattle.meaning.specs.Outcome.{areas, longEnough}
+use Rattle.meaning.proofs.Demands.{long-areas}
+use Rattle.plan.specs.declared.Verdict.the-variants.{Taken}
 use Rattle.plan.specs.Held.{planIn}
 use Rattle.plan.proofs.Answers.{read-refused, read-taken}
-use Rattle.solver.proofs.Settles.{times-short, levels-short, chain-short, refused-solves, settled-solves, read-memory}
+use Rattle.solver.proofs.Settles.{heard-taken, heard-refused, settled-solves, read-memory}
 use Rattle.solver.proofs.solve.Statement.{statement}
 use Rattle.solver.proofs.solve.Tie as tie
 
-returns : tie.Need-returns
-returns c = times-short _ _ _ _ (c .if1 .taken)
-
-returns-2 : tie.Need-returns-2
-returns-2 c = levels-short _ _ _ _ (c .before .if1 .left) (c .if2 .taken)
-
-returns-3 : tie.Need-returns-3
-returns-3 c = chain-short _ _ _ _ (c .before .before .if1 .left) (c .before .if2 .left) (c .if3 .taken)
+long-enough-requires : tie.Need-long-enough-requires
+long-enough-requires c κs = search needs
 
 slice-aggregate-read : tie.Need-slice-aggregate-read
 slice-aggregate-read c = search needs
@@ -24,23 +23,36 @@ slice-aggregate-read c = search needs
 read-requires : tie.Need-read-requires
 read-requires c κs = search needs
 
+heard-requires : tie.Need-heard-requires
+heard-requires c κs = search needs
+
+-- ---- a plan
+
 enum-told : tie.Need-enum-told
 enum-told c = search needs
+
+-- the areas are long enough, and the text is taken
+both : (c : tie.After-enum-told) → let args = c .before .before .before .before .before .before .before .before .before .before .before .before .before .args in
+    (longEnough (areas (args .times .now) (args .levels .now) (args .chain .now)) ≡ true) × (c .before .before .before .before .read .result .verdict ≡ Taken)
+both c =
+    let h = heard-taken (c .before .before .before .before .before .before .long-enough .result) (c .before .before .before .before .read .result .verdict) (sym (c .before .before .heard .ensures) ∙ c .enum-told .given .1) in
+    (sym (c .before .before .before .before .before .before .long-enough .ensures) ∙ h .0, h .1)
 
 slice-aggregate-settle : tie.Need-slice-aggregate-settle
 slice-aggregate-settle c = search needs
 
 settle-requires : tie.Need-settle-requires
-settle-requires c κs = record {
-  plan = planIn (read (c .before .before .before .before .before .before .before .before .before .before .before .before .before .before .before .args .text .now));
-  memory = read-memory (c .before .before .before .before .before .before .before .read .ensures) (le-refl MOST-LEVELS-TOGETHER) (c .before .before .before .before .enum-told .given .1);
-  times-long = c .before .before .before .before .before .before .before .before .before .before .before .if1 .left;
-  levels-long = c .before .before .before .before .before .before .before .before .before .before .if2 .left;
-  chain-long = c .before .before .before .before .before .before .before .before .before .if3 .left;
-}
-
-enum-known-verdict : tie.Need-enum-known-verdict
-enum-known-verdict c = search needs
+settle-requires c κs =
+    let at-told = c .before .before .before .before in
+    let args = c .before .before .before .before .before .before .before .before .before .before .before .before .before .before .before .before .before .args in
+    let long = long-areas (areas (args .times .now) (args .levels .now) (args .chain .now)) (both at-told .0) in
+    record {
+      plan = planIn (read (args .text .now));
+      memory = read-memory (c .before .before .before .before .before .before .before .before .read .ensures) (le-refl MOST-LEVELS-TOGETHER) (both at-told .1);
+      times-long = long .for-times;
+      levels-long = long .for-levels;
+      chain-long = long .for-chain;
+    }
 
 same-length : tie.Need-same-length
 same-length c = search needs
@@ -51,18 +63,40 @@ same-length-2 c = search needs
 same-length-3 : tie.Need-same-length-3
 same-length-3 c = search needs
 
-returns-4 : tie.Need-returns-4
-returns-4 c =
-    let r = c .before .before .before .before .before .before .before .before .before .before .before .before .before .read .ensures in
-    let e = c .before .before .before .before .before .before .before .before .before .before .enum-told .given .1 in
-    settled-solves _ _ _ _ (c .before .before .before .before .before .before .before .before .before .before .before .before .before .before .before .before .before .if1 .left) (c .before .before .before .before .before .before .before .before .before .before .before .before .before .before .before .before .if2 .left) (c .before .before .before .before .before .before .before .before .before .before .before .before .before .before .before .if3 .left) (read-taken r (le-refl MOST-LEVELS-TOGETHER) e) (c .before .before .before .before .before .settle .ensures (planIn (read (c .before .before .before .before .before .before .before .before .before .before .before .before .before .before .before .before .before .before .before .before .before .args .text .now))) (read-memory r (le-refl MOST-LEVELS-TOGETHER) e))
+returns : tie.Need-returns
+returns c =
+    let at-settle = c .before .before .before .before .before in
+    let at-told = at-settle .before .before .before .before .before in
+    let r = at-told .before .before .before .before .read .ensures in
+    let e = both at-told in
+    settled-solves _ _ (e .0) (read-taken r (le-refl MOST-LEVELS-TOGETHER) (e .1))
+    (at-settle .settle .ensures (planIn (read (c .before .before .before .before .before .before .before .before .before .before .before .before .before .before .before .before .before .before .before .before .before .before .before .args .text .now))) (read-memory r (le-refl MOST-LEVELS-TOGETHER) (e .1)))
 
-returns-5 : tie.Need-returns-5
-returns-5 c =
-    refused-solves _ _ _ _ (c .before .before .before .before .before .before .before .before .if1 .left) (c .before .before .before .before .before .before .before .if2 .left) (c .before .before .before .before .before .before .if3 .left) (read-refused (c .before .before .before .before .read .ensures) (le-refl MOST-LEVELS-TOGETHER) (c .before .verdict .given .1))
+-- ---- a refusal
+
+enum-known-number : tie.Need-enum-known-number
+enum-known-number c = search needs
+
+same-length-4 : tie.Need-same-length-4
+same-length-4 c = search needs
+
+same-length-5 : tie.Need-same-length-5
+same-length-5 c = search needs
+
+same-length-6 : tie.Need-same-length-6
+same-length-6 c = search needs
+
+returns-2 : tie.Need-returns-2
+returns-2 c =
+    let at-heard = c .before .before .before in
+    let at-read = at-heard .before .before in
+    let args = c .before .before .before .before .before .before .before .before .before .before .before .before .before .before .args in
+    heard-refused (args .text .now) (areas (args .times .now) (args .levels .now) (args .chain .now)) (at-read .before .before .long-enough .result)
+    (at-read .read .result .verdict) (at-read .before .before .long-enough .ensures) (read-refused (at-read .read .ensures) (le-refl MOST-LEVELS-TOGETHER))
+    (sym (at-heard .heard .ensures) ∙ c .before .number .given .1)
 
 pub solve-spec : {M : Type 1} → statement M
 solve-spec =
     tie.close
-    (tie.spec returns returns-2 returns-3 slice-aggregate-read read-requires enum-told slice-aggregate-settle settle-requires enum-known-verdict
-    same-length same-length-2 same-length-3 returns-4 returns-5)
+    (tie.spec long-enough-requires slice-aggregate-read read-requires heard-requires enum-told slice-aggregate-settle settle-requires enum-known-number
+    same-length same-length-2 same-length-3 returns same-length-4 same-length-5 same-length-6 returns-2)
