@@ -50,7 +50,11 @@ pub long-areas : (a : Areas) → longEnough a ≡ true → LongEnough a
 long-areas a e =
     let x = and-yes (leb MOST-EVENTS (length (a .times)) && leb MOST-RECORDS (length (a .levels))) (leb MOST-EVENTS (length (a .chain))) (subst T (sym e) tt) in
     let y = and-yes (leb MOST-EVENTS (length (a .times))) (leb MOST-RECORDS (length (a .levels))) (x .0) in
-    record { for-times = leb→le MOST-EVENTS (length (a .times)) (y .0); for-levels = leb→le MOST-RECORDS (length (a .levels)) (y .1); for-chain = leb→le MOST-EVENTS (length (a .chain)) (x .1) }
+    record {
+      for-times = leb→le MOST-EVENTS (length (a .times)) (y .0);
+      for-levels = leb→le MOST-RECORDS (length (a .levels)) (y .1);
+      for-chain = leb→le MOST-EVENTS (length (a .chain)) (x .1);
+    }
 
 -- ---- a call is on a plan, or its text or an area is refused
 
@@ -61,12 +65,14 @@ data Came (c : Call) : Type 0 where
 came : (c : Call) → Kept c → Came c
 came c k = go (longEnough (c .before)) refl (read (c .text)) refl (k .outcome) (k .right) (k .numbered) (k .writes)
   where
-    go : (b : Bool) → longEnough (c .before) ≡ b → (r : Reading) → read (c .text) ≡ r → (o : Outcome) → Right (cond b r (refused 7 0)) o → c .number ≡ number o →
-        c .after ≡ written o (c .before) → Came c
+    go : (b : Bool) → longEnough (c .before) ≡ b → (r : Reading) → read (c .text) ≡ r → (o : Outcome) → Right (cond b r (refused 7 0)) o →
+        c .number ≡ number o → c .after ≡ written o (c .before) → Came c
     go true l (plan p) e o x n w = on-plan p (record { reads = e; long = l })
     go true l (refused m i) e (solved ts ls) x n w = absurd x
     go true l (refused m i) e (none cs) x n w = absurd x
-    go true l (refused m i) e (refusal h j) x n w = let f = refused-number (c .text) e in turned-down (omega (arith, f .low, x .0)) (omega (arith, f .high, x .0)) w
+    go true l (refused m i) e (refusal h j) x n w =
+        let f = refused-number (c .text) e in
+        turned-down (omega (arith, f .low, x .0)) (omega (arith, f .high, x .0)) w
     go false l r e (solved ts ls) x n w = absurd x
     go false l r e (none cs) x n w = absurd x
     go false l r e (refusal h j) x n w = turned-down (omega (arith, x .0)) (omega (arith, x .0)) w
@@ -85,7 +91,9 @@ module _ (c : Call) (p : Plan) (h : Planned c p) where
   long = long-areas (c .before) (h .long)
 
   pub result : Kept c → Result c p
-  result k = go (k .outcome) (subst (λ r. Right r (k .outcome)) (ap (λ b. cond b (read (c .text)) (refused 7 0)) (h .long) ∙ h .reads) (k .right)) (k .numbered) (k .placed) (k .writes)
+  result k =
+      let e : heard (c .before) (c .text) ≡ plan p = ap (λ b. cond b (read (c .text)) (refused 7 0)) (h .long) ∙ h .reads in
+      go (k .outcome) (subst (λ r. Right r (k .outcome)) e (k .right)) (k .numbered) (k .placed) (k .writes)
     where
       go : (o : Outcome) → Right (plan p) o → c .number ≡ number o → c .place ≡ place o → c .after ≡ written o (c .before) → Result c p
       go (solved ts ls) x n l w = with-times ts ls x n l w
@@ -97,7 +105,10 @@ module _ (c : Call) (p : Plan) (h : Planned c p) where
   solved-call k z = go (result k)
     where
       go : Result c p → Solved p (times c p) (grades c)
-      go (with-times ts ls x n l w) = rw (front ts (c .before .times) (p .events) (ap (λ a. a .times) w) (sym (x .count)), front ls (c .before .levels) (c .place) (ap (λ a. a .levels) w) l) x
+      go (with-times ts ls x n l w) =
+          let e : times c p ≡ ts = front ts (c .before .times) (p .events) (ap (λ a. a .times) w) (sym (x .count)) in
+          let f : grades c ≡ ls = front ls (c .before .levels) (c .place) (ap (λ a. a .levels) w) l in
+          rw (e, f) x
       go (with-chain cs x n l w) = absurd (omega arith)
 
   -- the codes that are written are those of a chain
@@ -149,7 +160,9 @@ demand-1 c k = by (came c k)
     by (turned-down l h e) = record { numbered = h; refused = λ _. e; solved = λ z. absurd (omega arith); none = λ o. absurd (omega arith) }
 
 pub every-text : EveryText
-every-text text before = let x = some-outcome before text in (written (x .0) before, number (x .0), place (x .0), record { outcome = x .0; right = x .1; numbered = refl; placed = refl; writes = refl })
+every-text text before =
+    let x = some-outcome before text in
+    (written (x .0) before, number (x .0), place (x .0), record { outcome = x .0; right = x .1; numbered = refl; placed = refl; writes = refl })
 
 -- ---- demands 2 and 3
 
@@ -174,7 +187,10 @@ module _ (c : Call) (p : Plan) (h : Planned c p) (k : Kept c) where
       rw (s .levelled) (best-fair (good c p h) (s .best) .fair t m j l (rw (s .levelled) at up))
 
   pub optimal : Optimal c p
-  optimal = record { pareto = λ z. best-pareto (good c p h) (solved-call c p h k z .best); highest = λ z. best-highest (good c p h) (solved-call c p h k z .best) }
+  optimal = record {
+    pareto = λ z. best-pareto (good c p h) (solved-call c p h k z .best);
+    highest = λ z. best-highest (good c p h) (solved-call c p h k z .best);
+  }
 
 -- ---- any two agree
 

@@ -10,7 +10,8 @@ use lib.IntN.{ℤ, pos}
 use Rattle.meaning.specs.Plan.{Plan, Times, Timetable}
 use Rattle.meaning.specs.Outcome.{solved, number, place, longEnough, over, written}
 use Rattle.meaning.specs.Known.{Known, bytes, CASE-5, CASE-6, table}
-use Rattle.meaning.specs.Demands.{Call, Kept, grades, codes, KnownPlans, RefusesNoPlan, NoFixedReply, WritesSomething, ClimbsOn, ClimbsTogether, CountsSteps}
+use Rattle.meaning.specs.Demands.{Call, Kept, grades, codes, KnownPlans}
+use Rattle.meaning.specs.Demands.{RefusesNoPlan, NoFixedReply, WritesSomething, ClimbsOn, ClimbsTogether, CountsSteps}
 use Rattle.meaning.specs.Bounds.{Chain}
 use Rattle.meaning.proofs.Chains.{chain-excludes}
 use Rattle.meaning.proofs.KnownAlone.{known-alone}
@@ -27,7 +28,8 @@ abbrev pub row : String → List ℤ → List ℕ → Known
 row t ts ls = record { text = t; outcome = solved ts ls }
 
 -- the levels that a known plan ends with
-known-grades : (t : String) (ts : List ℤ) (ls : List ℕ) → List·Memᴰ (row t ts ls) table → (c : Call) → c .text ≡ bytes t → longEnough (c .before) ≡ true → Kept c → grades c ≡ ls
+known-grades : (t : String) (ts : List ℤ) (ls : List ℕ) → List·Memᴰ (row t ts ls) table →
+    (c : Call) → c .text ≡ bytes t → longEnough (c .before) ≡ true → Kept c → grades c ≡ ls
 known-grades t ts ls m c e l k =
     let x = known-plans (row t ts ls) m c e l k in
     front ls (c .before .levels) (c .place) (ap (λ a. a .levels) (x .writes)) (x .placed)
@@ -54,7 +56,8 @@ no-fixed-reply before after l f = second-time (before .times) (after .times) (wr
     written-times : (t : String) (ts : List ℤ) (ls : List ℕ) → List·Memᴰ (row t ts ls) table → after .times ≡ over ts (before .times)
     written-times t ts ls m =
         let x = f (bytes t) in
-        ap (λ a. a .times) (known-plans (row t ts ls) m (record { text = bytes t; before = before; after = after; number = x .0; place = x .1 }) refl l (x .2) .writes)
+        let c : Call = record { text = bytes t; before = before; after = after; number = x .0; place = x .1 } in
+        ap (λ a. a .times) (known-plans (row t ts ls) m c refl l (x .2) .writes)
 
     second-time : (x y : List ℤ) → y ≡ over (pos 0 ∷ pos 1 ∷ []) x → y ≡ over (pos 0 ∷ pos 0 ∷ pos 3 ∷ []) x → ⊥
     second-time x y d e = let z : _≡_ {A = ℕ} 1 0 = cc in omega arith

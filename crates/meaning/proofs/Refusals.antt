@@ -13,7 +13,9 @@ use lib.IntN.{pos, natAbs}
 use lib.Signed.{leZ}
 use Rattle.meaning.specs.Plan.{Plan, MOST-RECORDS, MOST-LEVELS, MOST-LEVELS-TOGETHER, MOST-HORIZON, MOST-EVENTS, MOST-BYTES}
 use Rattle.meaning.specs.Peak.{peaked}
-use Rattle.meaning.specs.Reading.{Form, eventsLine, ruleLine, wishLine, wrong, lineForm, grow, split, LINE-FEED, between, allLevels, inRange, sameEvent, lastOf, levelsTogether, Step, taken, fault, unless, firstLine, laterLine, lineStep, plan, refused, empty, afterStep, readPieces, read, linesIn, lines}
+use Rattle.meaning.specs.Reading.{Form, eventsLine, ruleLine, wishLine, wrong, lineForm, grow, split, LINE-FEED}
+use Rattle.meaning.specs.Reading.{between, allLevels, inRange, sameEvent, lastOf, levelsTogether, Step, taken, fault, unless, firstLine, laterLine}
+use Rattle.meaning.specs.Reading.{lineStep, plan, refused, empty, afterStep, readPieces, read, linesIn, lines}
 
 -- ---- the number of a fault
 
@@ -33,7 +35,8 @@ test-number true j s l h f e = f e
 test-number false j s l h f e = this-number j l h e
 
 first-number : (f : Form) {m : ℕ} → firstLine f ≡ fault m → Numbered m
-first-number (eventsLine n h) e = test-number (between (pos 1) (pos MOST-EVENTS) n && between (pos 0) (pos MOST-HORIZON) h) 4 _ (omega arith) (omega arith) (λ d. no-number d) e
+first-number (eventsLine n h) e =
+    test-number (between (pos 1) (pos MOST-EVENTS) n && between (pos 0) (pos MOST-HORIZON) h) 4 _ (omega arith) (omega arith) (λ d. no-number d) e
 first-number (ruleLine a b lo hi) e = this-number 2 (omega arith) (omega arith) e
 first-number (wishLine a b lo ls) e = this-number 2 (omega arith) (omega arith) e
 first-number wrong e = this-number 2 (omega arith) (omega arith) e
@@ -45,7 +48,8 @@ later-number p (ruleLine a b lo hi) e =
     (λ e. test-number (inRange (p .events) a b lo hi && leZ lo hi) 4 _ (omega arith) (omega arith)
     (λ e. test-number (not (sameEvent a b)) 5 _ (omega arith) (omega arith) (λ d. no-number d) e) e) e
 later-number p (wishLine a b lo ls) e =
-    test-number (ltb (length (p .records)) MOST-RECORDS && leb (length ls) MOST-LEVELS && leb (levelsTogether (p .records) + length ls) MOST-LEVELS-TOGETHER) 3 _ (omega arith) (omega arith)
+    test-number (ltb (length (p .records)) MOST-RECORDS && leb (length ls) MOST-LEVELS && leb (levelsTogether (p .records) + length ls) MOST-LEVELS-TOGETHER) 3 _
+    (omega arith) (omega arith)
     (λ e. test-number (inRange (p .events) a b lo (lastOf lo ls) && allLevels ls) 4 _ (omega arith) (omega arith)
     (λ e. test-number (not (sameEvent a b)) 5 _ (omega arith) (omega arith)
     (λ e. test-number (peaked (map natAbs ls)) 6 _ (omega arith) (omega arith) (λ d. no-number d) e) e) e) e
@@ -92,7 +96,8 @@ record Among (from : ℕ) (ps : List (List ℕ)) (m k : ℕ) : Type 0 where
   low : from ≤ k
   high : k < from + max (linesIn ps) (2 - from)
 
-this-refusal : (j line : ℕ) (ps : List (List ℕ)) {m k : ℕ} → Numbered j → line < line + max (linesIn ps) (2 - line) → refused j line ≡ refused m k → Among line ps m k
+this-refusal : (j line : ℕ) (ps : List (List ℕ)) {m k : ℕ} → Numbered j → line < line + max (linesIn ps) (2 - line) →
+    refused j line ≡ refused m k → Among line ps m k
 this-refusal j line ps {m} {k} n h e =
     let d : j ≡ m = cc in
     let f : line ≡ k = cc in

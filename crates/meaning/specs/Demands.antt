@@ -53,7 +53,8 @@ pub record Demand1 (c : Call) : Type 0 where
   pub numbered : c .number ≤ 7
   pub refused : 2 ≤ c .number → c .after ≡ c .before
   pub solved : c .number ≡ 0 → (p : Plan) → Planned c p →
-      FrontOnly (p .events) (c .before .times) (c .after .times) × FrontOnly (c .place) (c .before .levels) (c .after .levels) × (c .after .chain ≡ c .before .chain)
+      FrontOnly (p .events) (c .before .times) (c .after .times) × FrontOnly (c .place) (c .before .levels) (c .after .levels)
+      × (c .after .chain ≡ c .before .chain)
   pub none : c .number ≡ 1 →
       (c .after .times ≡ c .before .times) × (c .after .levels ≡ c .before .levels) × FrontOnly (c .place) (c .before .chain) (c .after .chain)
 
@@ -76,7 +77,9 @@ pub record Demand2 (c : Call) (p : Plan) : Type 0 where
 -- wish has a level in it that is below that wish's returned one and no higher than the returned level of the lifted wish."
 
 abbrev pub Demand3 : Call → Plan → Type 0
-Demand3 c p = c .number ≡ 0 → (t : Times) → Timetable p t → (k : ℕ) → k < wishes p → lv (grades c) k < lv (levels p t) k → Loss (wishes p) k (grades c) (levels p t)
+Demand3 c p =
+    c .number ≡ 0 → (t : Times) → Timetable p t → (k : ℕ) → k < wishes p → lv (grades c) k < lv (levels p t) k →
+    Loss (wishes p) k (grades c) (levels p t)
 
 -- "It also gives Pareto optimality and the greatest least level"
 pub record Optimal (c : Call) (p : Plan) : Type 0 where

@@ -64,5 +64,6 @@ module _ (text : List ℕ) (before after : Areas) (r : Found) (s : Solves text b
     solve-counts-steps = counts-steps call p h (s .promise)
 
   -- a known plan ends as the table says, its chain too
-  pub solve-known : (k : Known) → List·Memᴰ k table → text ≡ bytes (k .text) → longEnough before ≡ true → Ended call (k .outcome) × (r ≡ named (number (k .outcome)) (place (k .outcome)))
+  pub solve-known : (k : Known) → List·Memᴰ k table → text ≡ bytes (k .text) → longEnough before ≡ true →
+      Ended call (k .outcome) × (r ≡ named (number (k .outcome)) (place (k .outcome)))
   solve-known k m e l = let x = known-plans k m call e l (s .promise) in (x, s .variant ∙ ap₂ named (x .numbered) (x .placed))

@@ -74,7 +74,8 @@ module _ {p : M.Plan} {h : Plan} {held : List ℕ} {list : List Entry} (m : InMe
   pub settle-chained : {r k : ℕ} {before after : List ℕ} → r < lastPlace h → Found (listed list (r + 1)) before k after → Chained p before k after
   settle-chained l f = found-chained (m .faultless) s (rw (m .holds .events, m .holds .count) at l) f
 
-pub chained-settled : {p : M.Plan} {before after : List ℕ} {k : ℕ} (ts : List ℤ) (ls : List ℕ) → Chained p before k after → Settled p (areas ts ls before) (areas ts ls after) (Out.NoTimetable k)
+pub chained-settled : {p : M.Plan} {before after : List ℕ} {k : ℕ} (ts : List ℤ) (ls : List ℕ) → Chained p before k after →
+    Settled p (areas ts ls before) (areas ts ls after) (Out.NoTimetable k)
 chained-settled ts ls c = record {
   outcome = O.none (c .codes);
   right = c .chain;
@@ -141,7 +142,8 @@ module _ (text : List ℕ) (a : Areas) where
 
 -- ---- what the reader leaves
 
-pub read-memory : {text before after : List ℕ} {a : Answer} → Read text before after a → MOST-LEVELS-TOGETHER ≤ length before → a .verdict ≡ Said.Taken → InMemory (planIn (read text)) (a .plan) after
+pub read-memory : {text before after : List ℕ} {a : Answer} → Read text before after a → MOST-LEVELS-TOGETHER ≤ length before → a .verdict ≡ Said.Taken →
+    InMemory (planIn (read text)) (a .plan) after
 read-memory {text} r l e =
     let v = read-held r l in
     record { holds = read-holds r l; faultless = read-faultless text (read-taken r l e); room = omega (arith, v .long); levels = v .done }

@@ -22,7 +22,8 @@ pub enum Outcome {
 fn settle(h: Plan, held: &[u8], times: &mut [i64], levels: &mut [u8], chain: &mut [u16]) -> Outcome
     requires { ⌜ Settling h (now held) (now times) (now levels) (now chain) ⌝ }
     ensures { λ r. ⌜ ((p : M.Plan) → InMemory p h (now (held .entry))
-        → Settled p (areas (now (times .entry)) (now (levels .entry)) (now (chain .entry))) (areas (now (times .exit)) (now (levels .exit)) (now (chain .exit))) r) ⌝ }
+        → Settled p (areas (now (times .entry)) (now (levels .entry)) (now (chain .entry)))
+        (areas (now (times .exit)) (now (levels .exit)) (now (chain .exit))) r) ⌝ }
 {
     let n = h.events;
     let base = 2 * (n - 1);

@@ -20,10 +20,16 @@ returns-2 c =
     ∙ ap (λ (b : Bool). cond b Interrupted Failed) (c .if2 .left))
 
 cast-t5 : tie.Need-cast-t5
-cast-t5 c = let at-start = c .before .before in rw (toZ-ofZ (at-start .fits .got)) (answer-fits (at-start .args .got) (at-start .fits .got) (rw (toZ-ofZ (at-start .fits .got)) at (c .if3 .taken)))
+cast-t5 c =
+    let at-start = c .before .before in
+    let above = rw (toZ-ofZ (at-start .fits .got)) at (c .if3 .taken) in
+    rw (toZ-ofZ (at-start .fits .got)) (answer-fits (at-start .args .got) (at-start .fits .got) above)
 
 returns-3 : tie.Need-returns-3
-returns-3 c = let at-start = c .before .before in rw (toZ-ofZ (at-start .fits .got)) (sym (turn-more (at-start .args .got) (at-start .args .interrupted) (rw (toZ-ofZ (at-start .fits .got)) at (c .if3 .taken))))
+returns-3 c =
+    let at-start = c .before .before in
+    let above = rw (toZ-ofZ (at-start .fits .got)) at (c .if3 .taken) in
+    rw (toZ-ofZ (at-start .fits .got)) (sym (turn-more (at-start .args .got) (at-start .args .interrupted) above))
 
 returns-4 : tie.Need-returns-4
 returns-4 c =

@@ -35,8 +35,12 @@ enum-known-k c = search needs
 
 -- what was read so far with the bytes of this read
 gathered : (c : tie.After-known-told Inv-loop μ-loop) →
-    Reads (c .before .before .before .before .before .before .before .before .before .before .before .args .area .now) (c .before .before .before .before .before .before .before .before .before .loop .n + c .before .k .given .0 .0) (c .before .before .before .before .before .read-behind .last .1 .0)
-gathered c = turned-more _ _ (c .before .before .before .before .before .before .before .before .before .loop .inv) (c .before .before .before .before .before .read-behind .ensures) (c .before .k .given .1)
+    let at-read = c .before .before .before .before .before in
+    let at-loop = at-read .before .before .before .before in
+    Reads (at-loop .before .before .args .area .now) (at-loop .loop .n + c .before .k .given .0 .0) (at-read .read-behind .last .1 .0)
+gathered c =
+    let at-read = c .before .before .before .before .before in
+    turned-more _ _ (at-read .before .before .before .before .loop .inv) (at-read .read-behind .ensures) (c .before .k .given .1)
 
 add-n : tie.Need-add-n Inv-loop μ-loop
 add-n c = omega (arith, reads-room (gathered c), reads-long (gathered c))
@@ -53,7 +57,9 @@ enum-told : tie.Need-enum-told Inv-loop μ-loop
 enum-told c = search needs
 
 returns-2 : tie.Need-returns-2 Inv-loop μ-loop
-returns-2 c = gathered-whole (turned-end _ _ (c .before .before .before .before .before .before .before .before .loop .inv) (c .before .before .before .before .read-behind .ensures) (c .enum-told .given .1))
+returns-2 c =
+    let at-read = c .before .before .before .before in
+    gathered-whole (turned-end _ _ (at-read .before .before .before .before .loop .inv) (at-read .read-behind .ensures) (c .enum-told .given .1))
 
 same-length-2 : tie.Need-same-length-2 Inv-loop μ-loop
 same-length-2 c = returns-2 c .long
@@ -67,7 +73,9 @@ loop-less-2 : tie.Need-loop-less-2 Inv-loop μ-loop
 loop-less-2 c = omega arith
 
 loop-again-2 : tie.Need-loop-again-2 Inv-loop μ-loop
-loop-again-2 c = turned-interrupted _ _ (c .before .before .before .before .before .before .before .before .loop .inv) (c .before .before .before .before .read-behind .ensures) (c .enum-told2 .given .1)
+loop-again-2 c =
+    let at-read = c .before .before .before .before in
+    turned-interrupted _ _ (at-read .before .before .before .before .loop .inv) (at-read .read-behind .ensures) (c .enum-told2 .given .1)
 
 -- ---- a failure
 
@@ -75,7 +83,9 @@ enum-told-3 : tie.Need-enum-told-3 Inv-loop μ-loop
 enum-told-3 c = search needs
 
 returns-3 : tie.Need-returns-3 Inv-loop μ-loop
-returns-3 c = gathered-failed (turned-failed _ _ (c .before .before .before .before .before .before .before .before .loop .inv) (c .before .before .before .before .read-behind .ensures) (c .enum-told3 .given .1))
+returns-3 c =
+    let at-read = c .before .before .before .before in
+    gathered-failed (turned-failed _ _ (at-read .before .before .before .before .loop .inv) (at-read .read-behind .ensures) (c .enum-told3 .given .1))
 
 same-length-3 : tie.Need-same-length-3 Inv-loop μ-loop
 same-length-3 c = returns-3 c .long

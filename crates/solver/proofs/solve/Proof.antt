@@ -32,11 +32,15 @@ enum-told : tie.Need-enum-told
 enum-told c = search needs
 
 -- the areas are long enough, and the text is taken
-both : (c : tie.After-enum-told) → let args = c .before .before .before .before .before .before .before .before .before .before .before .before .before .args in
-    (longEnough (areas (args .times .now) (args .levels .now) (args .chain .now)) ≡ true) × (c .before .before .before .before .read .result .verdict ≡ Taken)
+both : (c : tie.After-enum-told) →
+    let at-read = c .before .before .before .before in
+    let args = at-read .before .before .before .before .before .before .before .before .before .args in
+    (longEnough (areas (args .times .now) (args .levels .now) (args .chain .now)) ≡ true) × (at-read .read .result .verdict ≡ Taken)
 both c =
-    let h = heard-taken (c .before .before .before .before .before .before .long-enough .result) (c .before .before .before .before .read .result .verdict) (sym (c .before .before .heard .ensures) ∙ c .enum-told .given .1) in
-    (sym (c .before .before .before .before .before .before .long-enough .ensures) ∙ h .0, h .1)
+    let at-read = c .before .before .before .before in
+    let long = at-read .before .before .long-enough in
+    let h = heard-taken (long .result) (at-read .read .result .verdict) (sym (c .before .before .heard .ensures) ∙ c .enum-told .given .1) in
+    (sym (long .ensures) ∙ h .0, h .1)
 
 slice-aggregate-settle : tie.Need-slice-aggregate-settle
 slice-aggregate-settle c = search needs
@@ -44,11 +48,12 @@ slice-aggregate-settle c = search needs
 settle-requires : tie.Need-settle-requires
 settle-requires c κs =
     let at-told = c .before .before .before .before in
-    let args = c .before .before .before .before .before .before .before .before .before .before .before .before .before .before .before .before .before .args in
+    let at-read = at-told .before .before .before .before in
+    let args = at-read .before .before .before .before .before .before .before .before .before .args in
     let long = long-areas (areas (args .times .now) (args .levels .now) (args .chain .now)) (both at-told .0) in
     record {
       plan = planIn (read (args .text .now));
-      memory = read-memory (c .before .before .before .before .before .before .before .before .read .ensures) (le-refl MOST-LEVELS-TOGETHER) (both at-told .1);
+      memory = read-memory (at-read .read .ensures) (le-refl MOST-LEVELS-TOGETHER) (both at-told .1);
       times-long = long .for-times;
       levels-long = long .for-levels;
       chain-long = long .for-chain;
@@ -67,10 +72,12 @@ returns : tie.Need-returns
 returns c =
     let at-settle = c .before .before .before .before .before in
     let at-told = at-settle .before .before .before .before .before in
-    let r = at-told .before .before .before .before .read .ensures in
+    let at-read = at-told .before .before .before .before in
+    let args = at-read .before .before .before .before .before .before .before .before .before .args in
+    let r = at-read .read .ensures in
     let e = both at-told in
     settled-solves _ _ (e .0) (read-taken r (le-refl MOST-LEVELS-TOGETHER) (e .1))
-    (at-settle .settle .ensures (planIn (read (c .before .before .before .before .before .before .before .before .before .before .before .before .before .before .before .before .before .before .before .before .before .before .before .args .text .now))) (read-memory r (le-refl MOST-LEVELS-TOGETHER) (e .1)))
+    (at-settle .settle .ensures (planIn (read (args .text .now))) (read-memory r (le-refl MOST-LEVELS-TOGETHER) (e .1)))
 
 -- ---- a refusal
 
@@ -90,7 +97,7 @@ returns-2 : tie.Need-returns-2
 returns-2 c =
     let at-heard = c .before .before .before in
     let at-read = at-heard .before .before in
-    let args = c .before .before .before .before .before .before .before .before .before .before .before .before .before .before .args in
+    let args = at-read .before .before .before .before .before .before .before .before .before .args in
     heard-refused (args .text .now) (areas (args .times .now) (args .levels .now) (args .chain .now)) (at-read .before .before .long-enough .result)
     (at-read .read .result .verdict) (at-read .before .before .long-enough .ensures) (read-refused (at-read .read .ensures) (le-refl MOST-LEVELS-TOGETHER))
     (sym (at-heard .heard .ensures) ∙ c .before .number .given .1)

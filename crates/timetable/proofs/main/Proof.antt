@@ -43,4 +43,5 @@ returns-2 c = search needs
 pub main-spec : {M : Type 1} → statement M
 main-spec =
     tie.close
-    (tie.spec slice-aggregate-read-text read-text-requires enum-known-read enum-told slice-aggregate-fail fail-requires returns array-share-prefix-text slice-aggregate-print print-requires returns-2)
+    (tie.spec slice-aggregate-read-text read-text-requires enum-known-read enum-told slice-aggregate-fail fail-requires returns
+    array-share-prefix-text slice-aggregate-print print-requires returns-2)

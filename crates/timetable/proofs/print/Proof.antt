@@ -48,4 +48,5 @@ returns-3 c = search needs
 pub print-spec : {M : Type 1} → statement M
 print-spec =
     tie.close
-    (tie.spec slice-aggregate-answer answer-requires array-share-prefix-out slice-aggregate-write-all write-all-requires slice-aggregate-fail fail-requires returns close-requires slice-aggregate-fail-2 fail-requires-2 returns-2 returns-3)
+    (tie.spec slice-aggregate-answer answer-requires array-share-prefix-out slice-aggregate-write-all write-all-requires slice-aggregate-fail
+    fail-requires returns close-requires slice-aggregate-fail-2 fail-requires-2 returns-2 returns-3)
