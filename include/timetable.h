@@ -1,6 +1,7 @@
 /* Step timetables: best timetables of plans with rules and wishes, over whole numbers.
  *
- * Link with libsolver.a. The library allocates nothing, keeps nothing between calls and needs at most 64 KB of stack. */
+ * Link with libsolver.a, on x86-64. The library allocates nothing, keeps nothing between calls and needs at most 64 KB of
+ * stack. It calls memcpy and memset and nothing else, so it runs freestanding where its host has these two. */
 #ifndef TIMETABLE_H
 #define TIMETABLE_H
 
@@ -51,7 +52,8 @@ extern "C" {
 
 /* Solves the plan in text[0 .. n-1]. The areas hold nt, nl and nc entries.
  *
- * No pointer may be null, also where a length is 0. The areas and *place overlap neither each other nor the text. */
+ * No pointer may be null, also where a length is 0, and each is aligned for its type. The areas and *place overlap neither
+ * each other nor the text, and until the call returns nothing else writes the text or touches the areas. */
 uint8_t timetable_solve(const uint8_t *text, size_t n, int64_t *times, size_t nt, uint8_t *levels, size_t nl,
                         uint16_t *chain, size_t nc, size_t *place);
 

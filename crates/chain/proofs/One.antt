@@ -2,29 +2,18 @@
 -- codes fit; so two results over one area differ in the codes of their chains only.
 use mathlib.Core.Path.{_≡_, sym, ap, _∙_, subst}
 use mathlib.Core.List.{List, map, List·Memᴰ, Memᴰ·of-map}
-use Prim.Native.Nat.{ℕ, _+_, _-_, _≤_, _<_}
+use Prim.Native.Nat.{ℕ, _+_, _≤_, _<_}
 use native.Mathlib.Omega.{arith}
-use lib.ListN.{length, getD, drop, length-append, length-drop, length-map}
-use lib.Seq.{getD-append-add, getD-drop}
+use lib.ListN.{length, getD, length-map}
 use lib.IntN.{ℤ}
 use Rattle.eventset.specs.Sets.{WIDTH}
 use Rattle.meaning.specs.Bounds.{Bound, ends}
 use Rattle.meaning.specs.Outcome.{over}
+use Rattle.meaning.proofs.Over.{over-long, over-rest}
 use Rattle.meaning.proofs.Pigeons.{pigeons}
 use Rattle.chain.specs.declared.Bound.{Bound as Entry}
 use Rattle.chain.specs.Clash.{listed, Given, Broken, Found}
 use Rattle.chain.proofs.Lead.{place-of}
-
--- ---- a list written over another
-
-over-rest : (new old : List ℕ) (k : ℕ) → length new ≤ k → getD (over new old) k 0 ≡ getD old k 0
-over-rest new old k l =
-    let n : ℕ = length new in
-    let e : n + (k - n) ≡ k = omega arith in
-    rw e at (getD-append-add new (drop n old) (k - n) 0 ∙ getD-drop n old (k - n) 0)
-
-over-long : (new old : List ℕ) → length new ≤ length old → length (over new old) ≡ length old
-over-long new old l = simp (length-append, length-drop) (omega arith)
 
 -- ---- one result
 
@@ -38,7 +27,7 @@ module _ {bounds : List Bound} {before : List ℕ} where
 
   -- past the codes the area is as before
   pub found-rest : {r : ℕ} {after : List ℕ} → Found bounds before r after → (k : ℕ) → r ≤ k → getD after k 0 ≡ getD before k 0
-  found-rest f k l = ap (λ (x : List ℕ). getD x k 0) (f .written) ∙ over-rest (codes f) before k (omega (arith, found-count f))
+  found-rest f k l = ap (λ (x : List ℕ). getD x k 0) (f .written) ∙ over-rest (codes f) before 0 k (omega (arith, found-count f))
 
   -- and it is as long, where they fit
   pub found-long : {r : ℕ} {after : List ℕ} → Found bounds before r after → r ≤ length before → length after ≡ length before

@@ -1,24 +1,24 @@
 -- The climb record by record: what the functions do to the matrix and to the levels is a step of the ladder.
 use mathlib.Core.Path.{_≡_, refl, sym, ap, _∙_}
 use mathlib.Core.Bool.{Bool, true, false}
-use mathlib.Core.List.{List, _++_}
+use mathlib.Core.List.{List}
 use Prim.Native.Nat.{ℕ, suc, _+_, _-_, _≤_, _<_}
 use native.Mathlib.Nat.{not-suc-le-zero}
 use native.Mathlib.Decide.{ℕ-discrete}
 use native.Mathlib.Numerals.{add-one}
 use native.Mathlib.Omega.{arith}
-use lib.ListN.{length, getD, set, drop, length-set, List·getD-append}
-use lib.Seq.{slice, set-append-left}
+use lib.ListN.{length, getD, set}
+use lib.Seq.{slice}
 use lib.IntN.{ℤ, pos, _+ℤ_, _-ℤ_}
 use Rattle.meaning.specs.Plan as M
 use Rattle.meaning.specs.Plan.{recordAt, Times, Within, TOP-LEVEL}
-use Rattle.meaning.specs.Outcome.{over}
 use Rattle.meaning.specs.Distances.{earliest, Stands}
 use Rattle.meaning.specs.Run.{Run}
 use Rattle.meaning.specs.Faultless.{GoodRecord}
 use Rattle.meaning.specs.Climb.{number, ClimbedTo}
 use Rattle.meaning.proofs.Stands.{stands-same, stands-earliest}
 use Rattle.meaning.proofs.Solve.{Between}
+use Rattle.meaning.proofs.Over.{over-at, over-set}
 use Rattle.meaning.proofs.Wishes.{wish-number, wish-below, next-wish, next-rule, climb-rule, climb-failed, climb-yes, climb-within, climb-no, climb-next}
 use Rattle.plan.specs.declared.Record.{Record}
 use Rattle.plan.specs.declared.Plan.{Plan}
@@ -30,14 +30,6 @@ use Rattle.distances.proofs.Rows.{beside-then, narrowed-beside}
 use Rattle.ladder.specs.Memory.{InMemory}
 use Rattle.ladder.specs.Climbing.{Asking, WishAnswered, WishClimbed, RecordAsking, RecordClimbed, Stage, Grading, Graded}
 use Rattle.ladder.proofs.Asks.{narrowing}
-
--- ---- the grades at the front of the levels
-
-over-at : (g before : List ℕ) (w : ℕ) → w < length g → getD (over g before) w 0 ≡ getD g w 0
-over-at g before w h = List·getD-append g _ 0 w h
-
-over-set : (g before : List ℕ) (w y : ℕ) → w < length g → set (over g before) w y ≡ over (set g w y) before
-over-set g before w y h = set-append-left g _ w y h ∙ ap (λ n. set g w y ++ drop n before) (sym (length-set g w y))
 
 -- ---- the matrix held to a run
 
@@ -89,7 +81,7 @@ module _ {p : M.Plan} {g k : ℕ} {old d : List ℤ} {before levels : List ℕ}
     here = omega (arith, s .climbed .count, wish-number (p .records) k l e)
 
     grade-is : getD levels (number p k) 0 ≡ getD (s .grades) (number p k) 0
-    grade-is = ap (λ v. getD v (number p k) 0) (s .written) ∙ over-at (s .grades) before (number p k) here
+    grade-is = ap (λ v. getD v (number p k) 0) (s .written) ∙ over-at (s .grades) before 0 (number p k) here
 
     -- the grade reached is at most g
     at-most : getD (s .grades) (number p k) 0 ≤ g

@@ -8,8 +8,7 @@ use native.Mathlib.Nat.{le-of-suc-le-suc, not-suc-le-zero}
 use native.Mathlib.Decide.{ℕ-discrete}
 use native.Mathlib.Omega.{arith}
 use lib.ListN.{length, getD}
-use lib.IntN.{pos, _+ℤ_}
-use lib.Signed.{_≤ℤ_}
+use lib.IntN.{pos}
 use Rattle.ticks.proofs.Ticks.{ticks}
 use Rattle.meaning.specs.Plan as P
 use Rattle.meaning.specs.Plan.{Record, nothing, Plan, recordAt, Times, Within, distance, Timetable}

@@ -1,23 +1,21 @@
 -- Every call that keeps the promise meets the three demands: by what the promise says of a text that is a plan, and of one that is not.
 use mathlib.Core.Path.{_≡_, refl, sym, ap, subst, _∙_}
-use mathlib.Core.Logic.{_↔_, _⊎_, inl, inr}
+use mathlib.Core.Logic.{_↔_}
 use mathlib.Core.Bool.{Bool, true, false, cond, _&&_}
 use mathlib.Core.List.{List}
 use Prim.Native.Nat.{ℕ, _≤_}
 use native.Mathlib.Omega.{arith}
 use mir.Facts.{and-yes}
 use lib.Dec.{T, leb, leb→le}
-use lib.ListN.{length, take, drop, length-append, length-drop, length-map}
-use lib.Seq.{take-at, drop-at}
+use lib.ListN.{length, take, drop, length-map}
 use lib.IntN.{ℤ}
-use Rattle.meaning.specs.Plan.{Plan, Times, Timetable, levels, wishes, MOST-EVENTS, MOST-RECORDS}
+use Rattle.meaning.specs.Plan.{Plan, Times, Timetable, levels, MOST-EVENTS, MOST-RECORDS}
 use Rattle.meaning.specs.Reading.{Reading, plan, refused, read}
 use Rattle.meaning.specs.Bounds.{Chain}
-use Rattle.meaning.specs.Ladder.{lv, Loss, Fair}
 use Rattle.meaning.specs.Outcome.{Outcome, solved, none, refusal, number, place, at, Solved, Right, Areas, longEnough, heard, over, written}
 use Rattle.meaning.specs.Faultless.{WithoutFault}
-use Rattle.meaning.specs.Demands as D
 use Rattle.meaning.specs.Demands.{Call, Kept, Planned, times, grades, codes, FrontOnly, Demand1, EveryText, Demand2, Demand3, Optimal, AnyTwoAgree}
+use Rattle.meaning.proofs.Over.{over-long, over-front, over-behind}
 use Rattle.meaning.proofs.Levels.{levels-count}
 use Rattle.meaning.proofs.Bounds.{timetable-holds}
 use Rattle.meaning.proofs.Wishes.{wishes-few}
@@ -31,13 +29,10 @@ use Rattle.meaning.proofs.Promises.{some-outcome, one-promise}
 
 module _ {A : Type 0} (new old : List A) {after : List A} (k : ℕ) (e : after ≡ over new old) (l : k ≡ length new) where
   pub front : take k after ≡ new
-  front = ap (λ x. take k x) e ∙ take-at new (drop (length new) old) k (sym l)
+  front = ap (λ x. take k x) e ∙ over-front new old k l
 
   front-only : length new ≤ length old → FrontOnly k old after
-  front-only few = record {
-    long = ap length e ∙ simp (length-append, length-drop) (omega arith);
-    rest = ap (λ x. drop k x) e ∙ drop-at new (drop (length new) old) k (sym l) ∙ ap (λ (n : ℕ). drop n old) (sym l);
-  }
+  front-only few = record { long = ap length e ∙ over-long new old few; rest = ap (λ x. drop k x) e ∙ over-behind new old k l }
 
 -- ---- areas that are long enough
 

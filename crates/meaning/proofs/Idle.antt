@@ -7,7 +7,7 @@ use Prim.Native.String.{String}
 use native.Mathlib.Omega.{arith}
 use lib.ListN.{length, length-map}
 use lib.IntN.{ℤ, pos}
-use Rattle.meaning.specs.Plan.{Plan, Times, Timetable}
+use Rattle.meaning.specs.Plan.{Times, Timetable}
 use Rattle.meaning.specs.Outcome.{solved, number, place, longEnough, over, written}
 use Rattle.meaning.specs.Known.{Known, bytes, CASE-5, CASE-6, table}
 use Rattle.meaning.specs.Demands.{Call, Kept, grades, codes, KnownPlans}

@@ -10,7 +10,8 @@ pub mod Climb
 pub mod Levels
 pub mod Fair
 pub mod Wishes
--- rows of times
+-- areas and rows of times
+pub mod Over
 pub mod Times
 -- a text's reading
 pub mod Tests

@@ -5,13 +5,10 @@ use mathlib.Core.Logic.{_↔_}
 use Prim.Native.Nat.{ℕ, suc, _<_}
 use native.Mathlib.Omega.{arith}
 use lib.ListN.{length}
-use lib.IntN.{pos, _+ℤ_}
-use lib.Signed.{_≤ℤ_, _<ℤ_}
-use Rattle.ticks.specs.Min.{minZ}
 use Rattle.ticks.proofs.Ticks.{ticks}
 use Rattle.meaning.specs.Plan.{Plan, recordAt, Times, Timetable}
 use Rattle.meaning.specs.Bounds.{Bound, upper, lower, Holds}
-use Rattle.meaning.specs.Distances.{Distances, Closed, Keeps, Stands, Adds, addedBound, Meets, Clashes, horizonOnly, earliest}
+use Rattle.meaning.specs.Distances.{Distances, Stands, Adds, addedBound, Meets, Clashes, horizonOnly, earliest}
 use Rattle.meaning.proofs.Distances.{adds-closed, adds-keeps, adds-old, adds-new, start-closed, start-means, means-start, earliest-holds}
 use Rattle.meaning.proofs.Bounds.{Placed, UpTo, up-to-none, up-to-next, up-to-less, up-to-upper, up-to-lower, up-to-all, timetable-up-to}
 

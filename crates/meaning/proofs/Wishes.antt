@@ -6,7 +6,7 @@ use Prim.Native.Nat.{ℕ, zero, suc, _≤_, _<_, suc-le-suc}
 use native.Mathlib.Nat.{le-of-suc-le-suc, not-suc-le-zero}
 use native.Mathlib.Decide.{decLe}
 use native.Mathlib.Omega.{arith}
-use lib.ListN.{length, getD, take, set, replicate}
+use lib.ListN.{length, getD, set, replicate}
 use lib.Seq.{take-length}
 use lib.IntN.{ℤ, _-ℤ_}
 use Rattle.meaning.specs.Plan.{Record, rule, wish, nothing, Plan, recordAt, Times, Timetable, levelAt, levelsOf, levels, wishCount, wishes, TOP-LEVEL}

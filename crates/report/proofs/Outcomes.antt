@@ -6,17 +6,18 @@ use Prim.Native.Nat.{ℕ, _+_, _*_, _≤_}
 use native.Mathlib.Omega.{arith}
 use borrow.Author.Tests.{leb-true, leb-false}
 use lib.Dec.{leb}
-use lib.ListN.{length, take, drop, length-append, length-map}
-use lib.Seq.{take-append-seam, length-take-le}
+use lib.ListN.{length, take, length-map}
+use lib.Seq.{length-take-le}
 use lib.IntN.{ℤ, pos}
 use Rattle.meaning.specs.Plan.{Plan, MOST-EVENTS, MOST-RECORDS, MOST-BYTES, wishes}
 use Rattle.meaning.specs.Reading.{Reading, plan, refused, read}
 use Rattle.meaning.specs.Bounds.{Chain}
 use Rattle.meaning.specs.Known.{bytes}
-use Rattle.meaning.specs.Outcome.{Outcome, solved, none, refusal, Right, Solved, Areas, areas, longEnough, over, at, written, number, place, Promise}
+use Rattle.meaning.specs.Outcome.{Outcome, solved, none, refusal, Right, Solved, Areas, areas, longEnough, at, written, number, place, Promise}
 use Rattle.meaning.specs.Faultless.{WithoutFault}
 use Rattle.meaning.proofs.Levels.{levels-count}
 use Rattle.meaning.proofs.ReadGood.{read-faultless}
+use Rattle.meaning.proofs.Over.{over-front, over-room}
 use Rattle.meaning.proofs.Refusals.{Refusal, refused-number}
 use Rattle.meaning.proofs.Wishes.{wishes-few}
 use Rattle.plan.specs.declared.Plan.{Plan as Held}
@@ -64,14 +65,6 @@ solved-put {p} {times = times} {levels = levels} t a b d =
 -- a form that was put is told
 pub told : {text s u : List ℕ} {r m : ℕ} (o : Outcome) → Right (read text) o → Put s u 0 r m (printed (planIn (read text)) o) → Told text s u r
 told o h p = let f = put-front p in record { outcome = o; right = h; count = f .0; written = f .1 }
-
--- ---- what stands in front
-
-front-is : {A : Type 0} (new old : List A) {after : List A} → after ≡ over new old → take (length new) after ≡ new
-front-is new old e = ap (take (length new)) e ∙ take-append-seam new (drop (length new) old)
-
-front-room : {A : Type 0} (new old : List A) {after : List A} → after ≡ over new old → length new ≤ length after
-front-room new old e = omega (arith, ap length e, length-append new (drop (length new) old))
 
 -- ---- the plan of an outcome
 
@@ -127,13 +120,13 @@ module _ {text : List ℕ} {times : List ℤ} {levels chain : List ℕ} {no k : 
       go (solved ts ls) h n p w =
           let q = solved-plan (read text) h in
           let c : length ls ≡ wishes (planIn (read text)) = ap length (q .1 .levelled) ∙ levels-count (planIn (read text)) (at ts) in
-          let f : take (planIn (read text) .events) times ≡ ts = ap (λ (i : ℕ). take i times) (sym (q .1 .count)) ∙ front-is ts (a .times) (ap (λ (x : Areas). x .times) w) in
-          let g : take (wishes (planIn (read text))) levels ≡ ls = ap (λ (i : ℕ). take i levels) (sym c) ∙ front-is ls (a .levels) (ap (λ (x : Areas). x .levels) w) in
+          let f : take (planIn (read text) .events) times ≡ ts = ap (λ (x : Areas). take (planIn (read text) .events) (x .times)) w ∙ over-front ts (a .times) _ (sym (q .1 .count)) in
+          let g : take (wishes (planIn (read text))) levels ≡ ls = ap (λ (x : Areas). take (wishes (planIn (read text))) (x .levels)) w ∙ over-front ls (a .levels) _ (sym c) in
           record {
             faultless = read-faultless text (q .0);
             right = rw (f, g) h;
             counted = p ∙ c;
-            long = omega (arith, q .1 .count, front-room ts (a .times) (ap (λ (x : Areas). x .times) w));
+            long = omega (arith, q .1 .count, over-room ts (a .times), ap (λ (x : Areas). length (x .times)) w);
           }
       go (none cs) h n p w = absurd (omega arith)
       go (refusal m j) h n p w = absurd (omega (arith, refusal-number text h .low))
@@ -145,11 +138,11 @@ module _ {text : List ℕ} {times : List ℤ} {levels chain : List ℕ} {no k : 
       go (solved ts ls) h n p w = absurd (omega arith)
       go (none cs) h n p w =
           let q = none-plan (read text) h in
-          let f : take k chain ≡ cs = ap (λ (i : ℕ). take i chain) p ∙ front-is cs (a .chain) (ap (λ (x : Areas). x .chain) w) in
+          let f : take k chain ≡ cs = ap (λ (x : Areas). take k (x .chain)) w ∙ over-front cs (a .chain) k p in
           record {
             right = rw f h;
             few = omega (arith, ap length (q .1 .coded), length-map (q .1 .steps) (λ b. b .code), q .1 .most, read-faultless text (q .0) .most);
-            long = omega (arith, front-room cs (a .chain) (ap (λ (x : Areas). x .chain) w));
+            long = omega (arith, over-room cs (a .chain), ap (λ (x : Areas). length (x .chain)) w);
           }
       go (refusal m j) h n p w = absurd (omega (arith, refusal-number text h .low))
 
@@ -164,7 +157,7 @@ module _ {text : List ℕ} {times : List ℤ} {levels chain : List ℕ} {no k : 
 -- ---- the count lies within the area
 
 told-within : {text before after : List ℕ} {r : ℕ} → Told text before after r → r ≤ length after
-told-within {text} {before} t = omega (arith, t .count, front-room (printed (planIn (read text)) (t .outcome)) before (t .written))
+told-within {text} {before} t = omega (arith, t .count, over-room (printed (planIn (read text)) (t .outcome)) before, ap length (t .written))
 
 pub answered-within : {text before after : List ℕ} {r : ℕ} → Answered text before after r → r ≤ length after
 answered-within {before = before} {after = after} {r = r} h = go (leb AREA (length before)) refl

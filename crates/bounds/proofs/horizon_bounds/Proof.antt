@@ -1,7 +1,7 @@
 -- `bounds::horizon_bounds` meets its contract: before event e the list has two bounds for each lesser event but 0.
 use Prim.Native.Nat.{_-_, _≤_}
 use native.Mathlib.Omega.{arith}
-use mathlib.Core.Path.{_≡_, refl}
+use mathlib.Core.Path.{_≡_}
 use Rattle.bounds.proofs.Lists.{Horizon-so-far, horizon-none, horizon-next}
 use Rattle.bounds.proofs.horizon_bounds.Statement.{statement}
 use Rattle.bounds.proofs.horizon_bounds.Tie as tie

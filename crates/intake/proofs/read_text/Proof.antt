@@ -2,7 +2,7 @@
 use Prim.Native.Nat.{_+_}
 use native.Mathlib.Omega.{arith}
 use borrow.Author.Needs.{needs}
-use Rattle.intake.specs.Gathered.{Reads, none, more}
+use Rattle.intake.specs.Gathered.{Reads, none}
 use Rattle.intake.proofs.Turns.{reads-long, reads-room, turned-more, turned-end, turned-interrupted, turned-failed, gathered-whole, gathered-failed}
 use Rattle.intake.proofs.read_text.Statement.{statement}
 use Rattle.intake.proofs.read_text.Tie as tie
