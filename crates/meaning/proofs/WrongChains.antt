@@ -11,7 +11,7 @@ use Rattle.meaning.specs.Peak.{peaked}
 use Rattle.meaning.specs.Bounds.{Chain}
 use Rattle.meaning.specs.Reading.{Reading, plan, refused, read, split, digitsOf, numberOf, lineForm, lineStep}
 use Rattle.meaning.specs.Faultless.{WithoutFault}
-use Rattle.meaning.specs.Known.{bytes}
+use Rattle.meaning.specs.Known.{bytes, CASE-7, CASE-8}
 use Rattle.meaning.proofs.All.{all-each}
 use Rattle.meaning.proofs.ReadGood.{read-faultless}
 use Rattle.meaning.proofs.ChainTest.{chainTest, chain-only}
@@ -23,17 +23,11 @@ pub record Wrong : Type 0 where
 abbrev wrong : String → List ℕ → Wrong
 wrong t cs = record { text = t; codes = cs }
 
--- case 7, whose chain is 4, 3, 1, and case 8
-abbrev CASE-7 : String
-CASE-7 = "events\t3\t10\nrule\t0\t1\t4\t10\nrule\t1\t2\t4\t10\nrule\t0\t2\t0\t7\n"
-
-abbrev CASE-8 : String
-CASE-8 = "events\t3\t10\nrule\t0\t1\t4\t10\nrule\t1\t2\t4\t10\nrule\t0\t2\t0\t8\n"
-
 -- case 9, whose chain is 514, 1, with four events
-abbrev CASE-9 : String
-CASE-9 = "events\t4\t3\nrule\t0\t1\t4\t10\n"
+abbrev CASE-9-OF-FOUR : String
+CASE-9-OF-FOUR = "events\t4\t3\nrule\t0\t1\t4\t10\n"
 
+-- the chain of case 7 is 4, 3, 1; in case 8 its weights sum to zero
 abbrev pub wrongs : List Wrong
 wrongs =
     -- a step's code is another's: the last, the first
@@ -46,7 +40,7 @@ wrongs =
     ∷ wrong CASE-7 (4 ∷ 1 ∷ 3 ∷ [])
     -- events are entered twice: in more steps than there are events, in as many
     ∷ wrong CASE-7 (4 ∷ 3 ∷ 1 ∷ 4 ∷ 3 ∷ 1 ∷ [])
-    ∷ wrong CASE-9 (514 ∷ 1 ∷ 514 ∷ 1 ∷ [])
+    ∷ wrong CASE-9-OF-FOUR (514 ∷ 1 ∷ 514 ∷ 1 ∷ [])
     -- the weights sum to 6; to zero
     ∷ wrong CASE-7 (0 ∷ 1 ∷ [])
     ∷ wrong CASE-8 (4 ∷ 3 ∷ 1 ∷ [])

@@ -19,12 +19,18 @@ pub record Known : Type 0 where
 abbrev known : String → Outcome → Known
 known t o = record { text = t; outcome = o }
 
--- the cases that section 8 and section 9 speak of
+-- cases that other sections or the proofs speak of by name
 abbrev pub CASE-5 : String
 CASE-5 = "events\t2\t1\nwish\t0\t1\t0\t5\t1\nwish\t0\t1\t0\t0\t1\n"
 
 abbrev pub CASE-6 : String
 CASE-6 = "events\t3\t10\nwish\t0\t1\t0\t1\nwish\t1\t2\t1\t1\t2\t3\n"
+
+abbrev pub CASE-7 : String
+CASE-7 = "events\t3\t10\nrule\t0\t1\t4\t10\nrule\t1\t2\t4\t10\nrule\t0\t2\t0\t7\n"
+
+abbrev pub CASE-8 : String
+CASE-8 = "events\t3\t10\nrule\t0\t1\t4\t10\nrule\t1\t2\t4\t10\nrule\t0\t2\t0\t8\n"
 
 abbrev pub table : List Known
 table =
@@ -34,8 +40,8 @@ table =
     ∷ known "events\t2\t1\nwish\t0\t1\t0\t1\t0\nwish\t0\t1\t0\t0\t1\n" (solved (pos 0 ∷ pos 0 ∷ []) (1 ∷ 0 ∷ []))
     ∷ known CASE-5 (solved (pos 0 ∷ pos 1 ∷ []) (1 ∷ 1 ∷ []))
     ∷ known CASE-6 (solved (pos 0 ∷ pos 0 ∷ pos 3 ∷ []) (1 ∷ 3 ∷ []))
-    ∷ known "events\t3\t10\nrule\t0\t1\t4\t10\nrule\t1\t2\t4\t10\nrule\t0\t2\t0\t7\n" (none (4 ∷ 3 ∷ 1 ∷ []))
-    ∷ known "events\t3\t10\nrule\t0\t1\t4\t10\nrule\t1\t2\t4\t10\nrule\t0\t2\t0\t8\n" (solved (pos 0 ∷ pos 4 ∷ pos 8 ∷ []) [])
+    ∷ known CASE-7 (none (4 ∷ 3 ∷ 1 ∷ []))
+    ∷ known CASE-8 (solved (pos 0 ∷ pos 4 ∷ pos 8 ∷ []) [])
     ∷ known "events\t2\t3\nrule\t0\t1\t4\t10\n" (none (514 ∷ 1 ∷ []))
     ∷ known "events\t2\t4\nrule\t0\t1\t4\t10\n" (solved (pos 0 ∷ pos 4 ∷ []) [])
     ∷ known "events\t2\t9\nwish\t0\t1\t0\t2\t1\t2\n" (refusal 6 2)
