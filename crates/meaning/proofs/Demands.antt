@@ -55,22 +55,22 @@ long-areas a e =
 
 data Came (c : Call) : Type 0 where
   on-plan : (p : Plan) → Planned c p → Came c
-  turned-down : 2 ≤ c .number → c .number ≤ 7 → c .after ≡ c .before → Came c
+  turned-down : 2 ≤ c .number → c .number ≤ 7 → heard (c .before) (c .text) ≡ refused (c .number) (c .place) → c .after ≡ c .before → Came c
 
 came : (c : Call) → Kept c → Came c
-came c k = go (longEnough (c .before)) refl (read (c .text)) refl (k .outcome) (k .right) (k .numbered) (k .writes)
+came c k = go (longEnough (c .before)) refl (read (c .text)) refl (k .outcome) (k .right) (k .numbered) (k .placed) (k .writes)
   where
     go : (b : Bool) → longEnough (c .before) ≡ b → (r : Reading) → read (c .text) ≡ r → (o : Outcome) → Right (cond b r (refused 7 0)) o →
-        c .number ≡ number o → c .after ≡ written o (c .before) → Came c
-    go true l (plan p) e o x n w = on-plan p (record { reads = e; long = l })
-    go true l (refused m i) e (solved ts ls) x n w = absurd x
-    go true l (refused m i) e (none cs) x n w = absurd x
-    go true l (refused m i) e (refusal h j) x n w =
+        c .number ≡ number o → c .place ≡ place o → c .after ≡ written o (c .before) → Came c
+    go true l (plan p) e o x n q w = on-plan p (record { reads = e; long = l })
+    go true l (refused m i) e (solved ts ls) x n q w = absurd x
+    go true l (refused m i) e (none cs) x n q w = absurd x
+    go true l (refused m i) e (refusal h j) x n q w =
         let f = refused-number (c .text) e in
-        turned-down (omega (arith, f .low, x .0)) (omega (arith, f .high, x .0)) w
-    go false l r e (solved ts ls) x n w = absurd x
-    go false l r e (none cs) x n w = absurd x
-    go false l r e (refusal h j) x n w = turned-down (omega (arith, x .0)) (omega (arith, x .0)) w
+        turned-down (omega (arith, f .low, x .0)) (omega (arith, f .high, x .0)) (rw (l, e, n ∙ x .0, q ∙ x .1)) w
+    go false l r e (solved ts ls) x n q w = absurd x
+    go false l r e (none cs) x n q w = absurd x
+    go false l r e (refusal h j) x n q w = turned-down (omega (arith, x .0)) (omega (arith, x .0)) (rw (l, n ∙ x .0, q ∙ x .1)) w
 
 -- ---- a call on a plan: solved, or no timetable
 
@@ -135,7 +135,8 @@ demand-1 c k = by (came c k)
     go : (p : Plan) → Planned c p → Result c p → Demand1 c
     go p h (with-times ts ls x n l w) = record {
       numbered = omega arith;
-      refused = λ r. absurd (omega arith);
+      reason = λ r. absurd (omega arith);
+      untouched = λ r. absurd (omega arith);
       solved = λ z q g. (
         front-only ts (c .before .times) (q .events) (ap (λ a. a .times) w) (ap (λ r. r .events) (one-plan g h) ∙ sym (x .count)) (times-room c p h x),
         front-only ls (c .before .levels) (c .place) (ap (λ a. a .levels) w) l (levels-room c p h x),
@@ -145,14 +146,21 @@ demand-1 c k = by (came c k)
     }
     go p h (with-chain cs x n l w) = record {
       numbered = omega arith;
-      refused = λ r. absurd (omega arith);
+      reason = λ r. absurd (omega arith);
+      untouched = λ r. absurd (omega arith);
       solved = λ z q g. absurd (omega arith);
       none = λ o. (ap (λ a. a .times) w, ap (λ a. a .levels) w, front-only cs (c .before .chain) (c .place) (ap (λ a. a .chain) w) l (chain-room c p h x));
     }
 
     by : Came c → Demand1 c
     by (on-plan p h) = go p h (result c p h k)
-    by (turned-down l h e) = record { numbered = h; refused = λ _. e; solved = λ z. absurd (omega arith); none = λ o. absurd (omega arith) }
+    by (turned-down l h r e) = record {
+      numbered = h;
+      reason = λ _. r;
+      untouched = λ _. e;
+      solved = λ z. absurd (omega arith);
+      none = λ o. absurd (omega arith);
+    }
 
 pub every-text : EveryText
 every-text text before =

@@ -10,10 +10,10 @@ use lib.ListN.{length, take, drop}
 use lib.IntN.{ℤ}
 use lib.Signed.{_≤ℤ_}
 use Rattle.meaning.specs.Plan.{Plan, Times, Timetable, levels, wishes}
-use Rattle.meaning.specs.Reading.{plan, read}
+use Rattle.meaning.specs.Reading.{plan, refused, read}
 use Rattle.meaning.specs.Bounds.{Bound, Holds, bounds, Chain}
 use Rattle.meaning.specs.Ladder.{lv, Loss, Pareto, Highest}
-use Rattle.meaning.specs.Outcome.{Outcome, number, place, at, BestTimes, Areas, longEnough, written, Promise}
+use Rattle.meaning.specs.Outcome.{Outcome, number, place, at, BestTimes, Areas, longEnough, heard, written, Promise}
 use Rattle.meaning.specs.Known.{Known, bytes, CASE-5, CASE-6, table}
 
 -- what a call was given, and what came of it
@@ -51,7 +51,9 @@ pub record FrontOnly {A : Type 0} (k : ℕ) (before after : List A) : Type 0 whe
 
 pub record Demand1 (c : Call) : Type 0 where
   pub numbered : c .number ≤ 7
-  pub refused : 2 ≤ c .number → c .after ≡ c .before
+  -- "each has its condition in section 3", and it is the first in its order
+  pub reason : 2 ≤ c .number → heard (c .before) (c .text) ≡ refused (c .number) (c .place)
+  pub untouched : 2 ≤ c .number → c .after ≡ c .before
   pub solved : c .number ≡ 0 → (p : Plan) → Planned c p →
       FrontOnly (p .events) (c .before .times) (c .after .times) × FrontOnly (c .place) (c .before .levels) (c .after .levels)
       × (c .after .chain ≡ c .before .chain)
