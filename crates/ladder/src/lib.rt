@@ -1,7 +1,8 @@
 // The climb over grades and wishes on the matrix of a plan's timetables.
 ghost use mathlib.Core.Path.{_≡_};
-ghost use Prim.Native.Nat.{_+_, _≤_, _<_};
-ghost use lib.ListN.{length};
+ghost use Prim.Native.Nat.{_+_, _-_, _≤_, _<_};
+ghost use lib.Dec.{eqb};
+ghost use lib.ListN.{length, getD};
 ghost use lib.IntN.{pos, _+ℤ_, _-ℤ_};
 ghost use Rattle.meaning.specs.Plan as M;
 ghost use Rattle.meaning.specs.Plan.{MOST-RECORDS};
@@ -82,12 +83,20 @@ fn ask(d: &mut [i32], n: usize, r: Record, held: &[u8], y: u8) -> bool
     distances::narrow(d, n, a, b, lo, hi)
 }
 
+// Whether wish w is still climbing: it has the grade before y.
+fn climbs(levels: &[u8], w: usize, y: u8) -> bool
+    requires { ⌜ (w < length (now levels)) × (1 ≤ y) ⌝ }
+    ensures { λ r. ⌜ r ≡ eqb (getD (now (levels .entry)) w 0) (y - 1) ⌝ }
+{
+    levels[w] == y - 1
+}
+
 // One wish at grade y: asked only while it is still climbing.
 fn climb_wish(d: &mut [i32], n: usize, r: Record, held: &[u8], y: u8, w: usize, levels: &mut [u8])
     requires { ⌜ Asking n r (now held) y (now d) × (w < length (now levels)) ⌝ }
     ensures { λ _. ⌜ WishClimbed n r (now (held .entry)) y w (now (d .entry)) (now (d .exit)) (now (levels .entry)) (now (levels .exit)) ⌝ }
 {
-    if levels[w] != y - 1 {
+    if !climbs(levels, w, y) {
         return;
     }
     if ask(d, n, r, held, y) {
