@@ -4,39 +4,29 @@ use mathlib.Core.Path.{_≡_, refl, ap, _∙_}
 use mathlib.Core.List.{List, List·Memᴰ, List·Memᴰ·head, List·Memᴰ·tail}
 use Prim.Native.Nat.{ℕ, _≤_}
 use Prim.Native.String.{String}
-use native.Mathlib.Omega.{arith}
 use lib.ListN.{length, getD}
-use lib.IntN.{ℤ}
 use Rattle.meaning.specs.Peak.{peaked}
 use Rattle.meaning.specs.Reading.{read, split, digitsOf, numberOf, lineForm, lineStep}
-use Rattle.meaning.specs.Outcome.{Outcome, solved, refusal, over}
+use Rattle.meaning.specs.Outcome.{refusal, over}
 use Rattle.meaning.specs.Known.{Known, bytes, table}
-use Rattle.meaning.proofs.KnownRight.{known-right}
-use Rattle.meaning.proofs.Promises.{Same, equal, chains}
+use Rattle.meaning.proofs.KnownAlone.{known-alone}
 use Rattle.plan.specs.Held.{planIn}
 use Rattle.text.specs.Written.{digitsWithin, decimal}
 use Rattle.report.specs.Printed.{printed}
 use Rattle.report.specs.Answer.{AREA, Answered}
-use Rattle.report.proofs.One.{one-right}
 
--- ---- a known plan that is solved
+-- ---- known plans
 
 -- the form of the outcome that the table has for a known plan
 abbrev pub knownForm : Known → List ℕ
 knownForm k = printed (planIn (read (bytes (k .text)))) (k .outcome)
 
--- an outcome that is the same as a solved one is that one
-same-solved : {o q : Outcome} {ts : List ℤ} {ls : List ℕ} → Same o q → q ≡ solved ts ls → o ≡ q
-same-solved equal e = refl
-same-solved chains e = let z : _≡_ {A = ℕ} 0 1 = cc in absurd (omega arith)
-
--- what `answer` leaves for a known plan that is solved is the form of the table's outcome, and its length is returned
-pub known-answered : (k : Known) → List·Memᴰ k table → {ts : List ℤ} {ls : List ℕ} → k .outcome ≡ solved ts ls → {before after : List ℕ} {r : ℕ} →
+-- what `answer` leaves for a known plan is the form of the table's outcome, and its length is returned
+pub known-answered : (k : Known) → List·Memᴰ k table → {before after : List ℕ} {r : ℕ} →
     Answered (bytes (k .text)) before after r → AREA ≤ length before → (r ≡ length (knownForm k)) × (after ≡ over (knownForm k) before)
-known-answered k m e {before} a l =
+known-answered k m {before} a l =
     let t = a .long l in
-    let s = same-solved (one-right (bytes (k .text)) (t .outcome) (k .outcome) (t .right) (known-right k m .right)) e in
-    let f = ap (printed (planIn (read (bytes (k .text))))) s in
+    let f = ap (printed (planIn (read (bytes (k .text))))) (known-alone k m (t .outcome) (t .right)) in
     (t .count ∙ ap length f, t .written ∙ ap (λ (x : List ℕ). over x before) f)
 
 -- ---- case 2
@@ -62,5 +52,5 @@ case-two-printed = refl
 pub case-two-answered : {before after : List ℕ} {r : ℕ} → Answered (bytes (caseTwo .text)) before after r → AREA ≤ length before →
     (r ≡ length (bytes OUTPUT)) × (after ≡ over (bytes OUTPUT) before)
 case-two-answered {before} a l =
-    let f = known-answered caseTwo case-two-known refl a l in
+    let f = known-answered caseTwo case-two-known a l in
     (f .0 ∙ ap length case-two-printed, f .1 ∙ ap (λ (x : List ℕ). over x before) case-two-printed)
