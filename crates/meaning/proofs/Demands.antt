@@ -137,6 +137,7 @@ demand-1 c k = by (came c k)
       numbered = omega arith;
       reason = λ r. absurd (omega arith);
       untouched = λ r. absurd (omega arith);
+      planned = λ r. (p, h);
       solved = λ z q g. (
         front-only ts (c .before .times) (q .events) (ap (λ a. a .times) w) (ap (λ r. r .events) (one-plan g h) ∙ sym (x .count)) (times-room c p h x),
         front-only ls (c .before .levels) (c .place) (ap (λ a. a .levels) w) l (levels-room c p h x),
@@ -148,6 +149,7 @@ demand-1 c k = by (came c k)
       numbered = omega arith;
       reason = λ r. absurd (omega arith);
       untouched = λ r. absurd (omega arith);
+      planned = λ r. (p, h);
       solved = λ z q g. absurd (omega arith);
       none = λ o. (ap (λ a. a .times) w, ap (λ a. a .levels) w, front-only cs (c .before .chain) (c .place) (ap (λ a. a .chain) w) l (chain-room c p h x));
     }
@@ -158,6 +160,7 @@ demand-1 c k = by (came c k)
       numbered = h;
       reason = λ _. r;
       untouched = λ _. e;
+      planned = λ r. absurd (omega arith);
       solved = λ z. absurd (omega arith);
       none = λ o. absurd (omega arith);
     }

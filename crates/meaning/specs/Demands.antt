@@ -54,6 +54,8 @@ pub record Demand1 (c : Call) : Type 0 where
   -- "each has its condition in section 3", and it is the first in its order
   pub reason : 2 ≤ c .number → heard (c .before) (c .text) ≡ refused (c .number) (c .place)
   pub untouched : 2 ≤ c .number → c .after ≡ c .before
+  -- a result comes only for a plan
+  pub planned : c .number < 2 → (p : Plan) × Planned c p
   pub solved : c .number ≡ 0 → (p : Plan) → Planned c p →
       FrontOnly (p .events) (c .before .times) (c .after .times) × FrontOnly (c .place) (c .before .levels) (c .after .levels)
       × (c .after .chain ≡ c .before .chain)
