@@ -1,2 +1,2 @@
 -- What the proofs of `intake` share.
-pub mod Turns
+pub mod Came

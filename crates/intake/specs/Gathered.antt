@@ -1,41 +1,48 @@
--- A text that reads gather in a lent area: each puts its bytes behind those of the reads before it, which stay as they are. So the text is the bytes
--- of all reads, in their order. Which bytes a read takes from the world no contract can say: `libc::read` promises a count that fits, and no more.
+-- A text that reads gather in a lent area: each puts its bytes behind those of the reads before it, which stay as they are. Which bytes a read takes
+-- from the world, and whether the input ends, no contract can say (`libc::read` promises a count that fits, and no more): what is done after each
+-- answer is therefore said exactly, by `nextOf`.
 use mathlib.Core.Path.{_≡_}
-use mathlib.Core.List.{List}
-use Prim.Native.Nat.{ℕ, zero, suc, _+_, _≤_, _<_}
 use mathlib.Core.Bool.{Bool, cond}
-use lib.IntN.{ℤ, pos, negsuc}
+use mathlib.Core.List.{List}
+use Prim.Native.Nat.{ℕ, zero, suc, _+_, _≤_}
 use lib.ListN.{length, take}
-use Rattle.intake.specs.declared.Turn.{Turn}
-use Rattle.intake.specs.declared.Turn.the-variants as T
+use lib.IntN.{ℤ, pos, negsuc}
+use Rattle.intake.specs.declared.Next.{Next}
+use Rattle.intake.specs.declared.Next.the-variants as N
 use Rattle.intake.specs.declared.Text.{Text}
-use Rattle.intake.specs.declared.Text.the-variants.{Whole}
+use Rattle.intake.specs.declared.Text.the-variants as X
 
--- what the answer of a read means: a count of bytes, 0 at the end of the input, or a failure, and one that a signal brought about is none
-abbrev pub turnOf : ℤ → Bool → Turn
-turnOf (pos zero) interrupted = T.End
-turnOf (pos (suc k)) interrupted = T.More (suc k)
-turnOf (negsuc k) interrupted = cond interrupted T.Interrupted T.Failed
+-- the bytes that an answer counts
+abbrev pub gives : ℤ → ℕ
+gives (pos k) = k
+gives (negsuc k) = 0
 
--- a read that was lent the area behind its first n bytes put k bytes there, and left the first n as they were
-pub record Put (n k : ℕ) (before after : List ℕ) : Type 0 where
-  pub room : n + k ≤ length before
+-- what is done after an answer, n bytes being there: 0 is the end of the input, a count goes on behind it, and a failure ends all but where a signal
+-- came first
+abbrev pub nextOf : ℕ → ℤ → Bool → Next
+nextOf n (pos zero) interrupted = N.Whole n
+nextOf n (pos (suc k)) interrupted = N.On (n + suc k)
+nextOf n (negsuc k) interrupted = cond interrupted (N.On n) N.Failed
+
+-- m bytes are there, of which the first n are as they were
+pub record Put (n m : ℕ) (before after : List ℕ) : Type 0 where
+  pub low : n ≤ m
+  pub room : m ≤ length before
   pub long : length after ≡ length before
   pub kept : take n after ≡ take n before
 
--- what one read came to. Only `More` gives bytes. After a failed read nothing is said of the area but its length, so that no text can be handed on
-abbrev pub Turned : ℕ → List ℕ → List ℕ → Turn → Type 0
-Turned n before after (T.More k) = (0 < k) × Put n k before after
-Turned n before after T.End = Put n 0 before after
-Turned n before after T.Interrupted = Put n 0 before after
-Turned n before after T.Failed = length after ≡ length before
+-- what one read left. After a failed one nothing is said of the area but its length, so that no text can be handed on
+abbrev pub Came : ℕ → List ℕ → List ℕ → Next → Type 0
+Came n before after (N.On m) = Put n m before after
+Came n before after (N.Whole m) = (m ≡ n) × Put n n before after
+Came n before after N.Failed = length after ≡ length before
 
--- reads one after the other, from the area as it was before the first: n bytes in all
+-- reads one after the other, from the area as it was before the first: n bytes are there
 pub data Reads (first : List ℕ) : ℕ → List ℕ → Type 0 where
   none : Reads first 0 first
-  more : {n k : ℕ} {before after : List ℕ} → Reads first n before → Put n k before after → Reads first (n + k) after
+  more : {n m : ℕ} {before after : List ℕ} → Reads first n before → Put n m before after → Reads first m after
 
--- the text is what the reads gave; after a failure nothing is said of the bytes
+-- the text is what the reads left; after a failure nothing is said of the bytes
 pub record Gathered (before after : List ℕ) (r : Text) : Type 0 where
   pub long : length after ≡ length before
-  pub whole : (n : ℕ) → r ≡ Whole n → Reads before n after
+  pub whole : (n : ℕ) → r ≡ X.Whole n → Reads before n after

@@ -1,14 +1,15 @@
-// A text read whole from a file descriptor, or a failure: never the front of one.
+// A text read from a file descriptor up to its end, or a failure.
 ghost use mathlib.Core.Path.{_≡_};
-ghost use Prim.Native.Nat.{_≤_};
+ghost use Prim.Native.Nat.{_+_, _≤_};
 ghost use lib.ListN.{length};
-ghost use Rattle.intake.specs.Gathered.{turnOf, Turned, Gathered};
+ghost use mir.Syntax.{w64};
+ghost use mir.Val.{Fits};
+ghost use Rattle.intake.specs.Gathered.{gives, nextOf, Came, Gathered};
 
-// What one read came to: that many bytes more, the end of the input, a signal that came first, or a failure, of which errno says why.
-enum Turn {
-    More(usize),
-    End,
-    Interrupted,
+// What is done after a read: go on with so many bytes, hand on so many, or say that it failed; errno says why.
+enum Next {
+    On(usize),
+    Whole(usize),
     Failed,
 }
 
@@ -21,29 +22,30 @@ pub enum Text {
 // A proved loop has to end, and nothing says that signals do: it counts its reads down, from a number that no run uses up.
 const MOST_READS: u64 = u64::MAX;
 
-// What the answer of a read means; `interrupted` says whether errno says so.
-fn came_to(got: isize, interrupted: bool) -> Turn
-    ensures { λ r. ⌜ r ≡ turnOf got interrupted ⌝ }
+// What the answer of a read means where n bytes are there: only 0 is the end. `interrupted` says that a signal came first.
+fn decide(n: usize, got: isize, interrupted: bool) -> Next
+    requires { ⌜ Fits w64 (n + gives got) ⌝ }
+    ensures { λ r. ⌜ r ≡ nextOf n got interrupted ⌝ }
 {
     if got < 0 {
         if interrupted {
-            return Turn::Interrupted;
+            return Next::On(n);
         }
-        return Turn::Failed;
+        return Next::Failed;
     }
     if got > 0 {
-        return Turn::More(got as usize);
+        return Next::On(n + got as usize);
     }
-    Turn::End
+    Next::Whole(n)
 }
 
 // One read behind the first n bytes of the area, which stay as they are.
-fn read_behind(fd: i32, area: &mut [u8], n: usize) -> Turn
+fn read_behind(fd: i32, area: &mut [u8], n: usize) -> Next
     requires { ⌜ n ≤ length (now area) ⌝ }
-    ensures { λ r. ⌜ Turned n (now (area .entry)) (now (area .exit)) r ⌝ }
+    ensures { λ r. ⌜ Came n (now (area .entry)) (now (area .exit)) r ⌝ }
 {
     let got = libc::read(fd, &mut area[n..]);
-    came_to(got, os::errno() == libc::EINTR)
+    decide(n, got, os::errno() == libc::EINTR)
 }
 
 // Reads up to the end of the input, or until the area is full.
@@ -58,10 +60,9 @@ pub fn read_text(fd: i32, area: &mut [u8]) -> Text
         }
         left -= 1;
         match read_behind(fd, area, n) {
-            Turn::More(k) => n += k,
-            Turn::End => return Text::Whole(n),
-            Turn::Interrupted => {}
-            Turn::Failed => return Text::Failed,
+            Next::On(m) => n = m,
+            Next::Whole(m) => return Text::Whole(m),
+            Next::Failed => return Text::Failed,
         }
     }
     Text::Whole(n)

@@ -1,7 +1,8 @@
 -- `intake::read_behind` meets its contract: what it lends is the part behind the first n bytes, so these are as they were when it is back.
+use native.Mathlib.Omega.{arith}
 use mir.Facts.{toZ-ofZ}
 use borrow.Author.Needs.{needs}
-use Rattle.intake.proofs.Turns.{answered}
+use Rattle.intake.proofs.Came.{answer-room, answered}
 use Rattle.intake.proofs.read_behind.Statement.{statement}
 use Rattle.intake.proofs.read_behind.Tie as tie
 
@@ -20,8 +21,11 @@ read-requires c κs = search needs
 errno-requires : tie.Need-errno-requires
 errno-requires c κs = search needs
 
-came-to-requires : tie.Need-came-to-requires
-came-to-requires c κs = search needs
+decide-requires : tie.Need-decide-requires
+decide-requires c κs =
+    let read = c .before .before .before .read in
+    let start = c .before .before .before .before .before .before in
+    rw (toZ-ofZ (record { sfits = read .ok })) (record { fits = omega (arith, answer-room (start .args .n) (start .args .area .now) (read .result) (start .pre) (read .ensures)) })
 
 same-length : tie.Need-same-length
 same-length c = search needs
@@ -31,8 +35,8 @@ returns c =
     let at-back = c .before .before .before in
     let at-start = at-back .before .before .before .before in
     let read = at-back .before .read in
-    rw (c .came-to .ensures) (rw (toZ-ofZ (record { sfits = read .ok }))
+    rw (c .decide .ensures) (rw (toZ-ofZ (record { sfits = read .ok }))
     (answered (at-start .args .n) (at-start .args .area .now) (read .last .1 .0) (read .result) _ (at-start .pre) (at-back .area .given .1) (read .ensures)))
 
 pub read-behind-spec : {M : Type 1} → statement M
-read-behind-spec = tie.close (tie.spec sub-read part-read-start part-read-end read-requires errno-requires came-to-requires same-length returns)
+read-behind-spec = tie.close (tie.spec sub-read part-read-start part-read-end read-requires errno-requires decide-requires same-length returns)

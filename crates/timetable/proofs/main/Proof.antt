@@ -2,7 +2,7 @@
 use mathlib.Core.Path.{sym}
 use lib.Seq.{length-take-le}
 use borrow.Author.Needs.{needs}
-use Rattle.intake.proofs.Turns.{whole-within}
+use Rattle.intake.proofs.Came.{whole-within}
 use Rattle.timetable.proofs.main.Statement.{statement}
 use Rattle.timetable.proofs.main.Tie as tie
 
