@@ -14,7 +14,7 @@ use Rattle.meaning.specs.Reading.{Reading, plan, refused, read}
 use Rattle.meaning.specs.Bounds.{Chain}
 use Rattle.meaning.specs.Outcome.{Outcome, solved, none, refusal, number, place, at, Solved, Right, Areas, longEnough, heard, over, written}
 use Rattle.meaning.specs.Faultless.{WithoutFault}
-use Rattle.meaning.specs.Demands.{Call, Kept, Planned, times, grades, codes, FrontOnly, Demand1, EveryText, Demand2, Demand3, Optimal, AnyTwoAgree}
+use Rattle.meaning.specs.Demands.{Call, Kept, OnPlan, times, grades, codes, FrontOnly, Demand1, EveryText, Demand2, Demand3, Optimal, AnyTwoAgree}
 use Rattle.meaning.proofs.Over.{over-long, over-front, over-behind}
 use Rattle.meaning.proofs.Levels.{levels-count}
 use Rattle.meaning.proofs.Bounds.{timetable-holds}
@@ -54,7 +54,7 @@ long-areas a e =
 -- ---- a call is on a plan, or its text or an area is refused
 
 data Came (c : Call) : Type 0 where
-  on-plan : (p : Plan) → Planned c p → Came c
+  on-plan : (p : Plan) → OnPlan c p → Came c
   turned-down : 2 ≤ c .number → c .number ≤ 7 → heard (c .before) (c .text) ≡ refused (c .number) (c .place) → c .after ≡ c .before → Came c
 
 came : (c : Call) → Kept c → Came c
@@ -78,7 +78,7 @@ pub data Result (c : Call) (p : Plan) : Type 0 where
   with-times : (ts : List ℤ) (ls : List ℕ) → Solved p ts ls → c .number ≡ 0 → c .place ≡ length ls → c .after ≡ written (solved ts ls) (c .before) → Result c p
   with-chain : (cs : List ℕ) → Chain p cs → c .number ≡ 1 → c .place ≡ length cs → c .after ≡ written (none cs) (c .before) → Result c p
 
-module _ (c : Call) (p : Plan) (h : Planned c p) where
+module _ (c : Call) (p : Plan) (h : OnPlan c p) where
   good : WithoutFault p
   good = read-faultless (c .text) (h .reads)
 
@@ -129,10 +129,10 @@ module _ (c : Call) (p : Plan) (h : Planned c p) where
 pub demand-1 : (c : Call) → Kept c → Demand1 c
 demand-1 c k = by (came c k)
   where
-    one-plan : {p q : Plan} → Planned c p → Planned c q → p ≡ q
+    one-plan : {p q : Plan} → OnPlan c p → OnPlan c q → p ≡ q
     one-plan h g = let e = h .reads in let f = g .reads in cc
 
-    go : (p : Plan) → Planned c p → Result c p → Demand1 c
+    go : (p : Plan) → OnPlan c p → Result c p → Demand1 c
     go p h (with-times ts ls x n l w) = record {
       numbered = omega arith;
       reason = λ r. absurd (omega arith);
@@ -172,7 +172,7 @@ every-text text before =
 
 -- ---- demands 2 and 3
 
-module _ (c : Call) (p : Plan) (h : Planned c p) (k : Kept c) where
+module _ (c : Call) (p : Plan) (h : OnPlan c p) (k : Kept c) where
   exactly : Result c p → (c .number ≡ 1) ↔ ((t : Times) → Timetable p t → ⊥)
   exactly (with-times ts ls x n l w) = (λ o. absurd (omega arith), λ f. absurd (f (at ts) (x .best .member)))
   exactly (with-chain cs x n l w) = (λ o t. chain-excludes x, λ f. n)

@@ -28,7 +28,7 @@ abbrev pub Kept : Call → Type 0
 Kept c = Promise (c .text) (c .before) (c .after) (c .number) (c .place)
 
 -- the text is the plan p, and the areas are long enough
-pub record Planned (c : Call) (p : Plan) : Type 0 where
+pub record OnPlan (c : Call) (p : Plan) : Type 0 where
   pub reads : read (c .text) ≡ plan p
   pub long : longEnough (c .before) ≡ true
 
@@ -55,8 +55,8 @@ pub record Demand1 (c : Call) : Type 0 where
   pub reason : 2 ≤ c .number → heard (c .before) (c .text) ≡ refused (c .number) (c .place)
   pub untouched : 2 ≤ c .number → c .after ≡ c .before
   -- a result comes only for a plan
-  pub planned : c .number < 2 → (p : Plan) × Planned c p
-  pub solved : c .number ≡ 0 → (p : Plan) → Planned c p →
+  pub planned : c .number < 2 → (p : Plan) × OnPlan c p
+  pub solved : c .number ≡ 0 → (p : Plan) → OnPlan c p →
       FrontOnly (p .events) (c .before .times) (c .after .times) × FrontOnly (c .place) (c .before .levels) (c .after .levels)
       × (c .after .chain ≡ c .before .chain)
   pub none : c .number ≡ 1 →
@@ -117,7 +117,7 @@ KnownPlans = (k : Known) → List·Memᴰ k table → (c : Call) → c .text ≡
 
 -- "One that refuses all plans": a plan in areas long enough is never refused, and a plan with a timetable is solved
 abbrev pub RefusesNoPlan : Type 0
-RefusesNoPlan = (c : Call) (p : Plan) → Planned c p → Kept c → (c .number < 2) × ((t : Times) → Timetable p t → c .number ≡ 0)
+RefusesNoPlan = (c : Call) (p : Plan) → OnPlan c p → Kept c → (c .number < 2) × ((t : Times) → Timetable p t → c .number ≡ 0)
 
 -- "One with a fixed reply": no areas are right afterwards for every text
 abbrev pub NoFixedReply : Type 0
@@ -141,4 +141,4 @@ ClimbsTogether = NeverEndsAt CASE-5 (5 ∷ 0 ∷ [])
 
 -- "One that invents the step count: demand 2, through section 5"
 abbrev pub CountsSteps : Type 0
-CountsSteps = (c : Call) (p : Plan) → Planned c p → Kept c → c .number ≡ 1 → (2 ≤ c .place) × (c .place ≤ p .events) × Chain p (codes c)
+CountsSteps = (c : Call) (p : Plan) → OnPlan c p → Kept c → c .number ≡ 1 → (2 ≤ c .place) × (c .place ≤ p .events) × Chain p (codes c)

@@ -9,7 +9,7 @@ use Rattle.meaning.specs.Plan.{Plan, Times, Timetable}
 use Rattle.meaning.specs.Bounds.{Chain}
 use Rattle.meaning.specs.Outcome.{number, place, Areas, longEnough}
 use Rattle.meaning.specs.Known.{Known, bytes, table}
-use Rattle.meaning.specs.Demands.{Call, Planned, codes, Demand1, Demand2, Demand3, Optimal, Agree, Ended}
+use Rattle.meaning.specs.Demands.{Call, OnPlan, codes, Demand1, Demand2, Demand3, Optimal, Agree, Ended}
 use Rattle.meaning.proofs.Promises.{one-promise}
 use Rattle.meaning.proofs.Demands.{demand-1, demand-2, demand-3, optimal}
 use Rattle.meaning.proofs.Idle.{known-plans, refuses-no-plan, counts-steps}
@@ -45,7 +45,7 @@ module _ (text : List ℕ) (before after : Areas) (r : Found) (s : Solves text b
   solve-demand-1 = demand-1 call (s .promise)
 
   -- a text that is a plan, in areas that are long enough
-  module _ (p : Plan) (h : Planned call p) where
+  module _ (p : Plan) (h : OnPlan call p) where
     pub solve-demand-2 : Demand2 call p
     solve-demand-2 = demand-2 call p h (s .promise)
 
