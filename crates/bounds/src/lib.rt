@@ -17,9 +17,10 @@ ghost use Rattle.bounds.specs.Listed.{Planned, Listed};
 ghost use Rattle.bounds.specs.Entries.{upperEntry, lowerEntry, Front, Appending};
 ghost use Rattle.bounds.specs.Tried.{Trying, Tried};
 use chain::Bound;
-use chain::MOST_BOUNDS;
 use plan::Plan;
 use plan::Record;
+use scope::HORIZON_CODES;
+use scope::MOST_BOUNDS;
 
 fn as_event(x: usize) -> u8
     requires { ⌜ x < 256 ⌝ }
@@ -68,7 +69,7 @@ fn horizon_upper(e: usize, h: u32) -> Bound
     Bound {
         start: 0,
         end: as_event(e),
-        code: as_code(512 + 2 * e),
+        code: as_code(HORIZON_CODES + 2 * e),
         weight: as_weight(h),
     }
 }
@@ -80,7 +81,7 @@ fn horizon_lower(e: usize) -> Bound
     Bound {
         start: as_event(e),
         end: 0,
-        code: as_code(513 + 2 * e),
+        code: as_code(HORIZON_CODES + 2 * e + 1),
         weight: 0,
     }
 }

@@ -1,20 +1,20 @@
 -- A bound that fails against the distances of the bounds before it, and the chain that shows it.
 use mathlib.Core.Path.{_≡_}
 use mathlib.Core.List.{List, map, List·Memᴰ}
-use Prim.Native.Nat.{ℕ, _+_, _≤_, _<_}
+use Prim.Native.Nat.{ℕ, _+_, _-_, _*_, _≤_, _<_}
 use lib.Dec.{T}
 use lib.ListN.{length, getD, take}
 use lib.IntN.{ℤ, pos, negℤ, _+ℤ_}
 use lib.Signed.{_<ℤ_}
-use Rattle.meaning.specs.Plan.{MOST-EVENTS, MOST-HORIZON, MOST-END, Within}
+use Rattle.meaning.specs.Plan.{MOST-EVENTS, MOST-HORIZON, MOST-END, MOST-RECORDS, Within}
 use Rattle.meaning.specs.Bounds.{Bound, Leads, total, distinct, ends}
 use Rattle.meaning.specs.Outcome.{over}
 use Rattle.distances.specs.Matrix.{ENTRIES, at}
 use Rattle.chain.specs.declared.Bound.{Bound as Entry}
 
--- in code the constant of this name
+-- two bounds for each event other than 0, and two for each record; in code the constant of this name
 abbrev pub MOST-BOUNDS : ℕ
-MOST-BOUNDS = 640
+MOST-BOUNDS = 2 * (MOST-EVENTS - 1) + 2 * MOST-RECORDS
 
 -- an entry of the list as a bound of document 01
 abbrev pub boundOf : Entry → Bound

@@ -9,6 +9,7 @@ use lib.ListN.{length, getD, set}
 use lib.IntN.{ℤ}
 use lib.Count.{ones}
 use Rattle.eventset.specs.Sets.{WIDTH, member, putIn}
+use Rattle.meaning.specs.Plan.{MOST-EVENTS}
 use Rattle.meaning.specs.Bounds.{Bound, Leads, distinct, ends}
 use Rattle.meaning.specs.Outcome.{over}
 use Rattle.chain.specs.declared.Bound.{Bound as Entry}
@@ -16,9 +17,9 @@ use Rattle.chain.specs.Clash.{boundAt, Fit, Table, Given, Tight, TightAt
 
 -- ---- the notes
 
--- in code the constant of this name
+-- two numbers for each event; in code the constant of this name
 abbrev pub NOTES : ℕ
-NOTES = 128
+NOTES = 2 * MOST-EVENTS
 
 -- the note at event e
 abbrev pub endAt : List ℕ → ℕ → ℕ

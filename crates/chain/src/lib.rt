@@ -6,11 +6,11 @@ ghost use lib.Count.{ones};
 ghost use Rattle.eventset.specs.Sets.{WIDTH, bitsOf};
 ghost use Rattle.chain.specs.Clash.{Tight, listed, Broken, Found};
 ghost use Rattle.chain.specs.Marks.{NOTES, note as noteIn, Looking, LookingAt, Decided, Look, LookAt, Scanning, Scanned, Marking, Reached, Visiting, Visited, Writing, Written};
+use scope::MOST_BOUNDS;
+use scope::MOST_EVENTS;
 
-pub const MOST_BOUNDS: usize = 640;
-
-// The end and the code of a bound for each of 64 events.
-const NOTES: usize = 128;
+// The end and the code of a bound for each event.
+const NOTES: usize = 2 * MOST_EVENTS;
 
 // The event `end` comes at most `weight` after the event `start`.
 pub struct Bound {

@@ -9,8 +9,7 @@ ghost use Rattle.distances.specs.Matrix.{STRIDE, at, meeting, Place, Sta
 ghost use Rattle.distances.specs.Sweep.{Swept};
 ghost use Rattle.distances.specs.Rows.{Lowering, Copying, Inserting, lowered};
 
-// MOST-EVENTS of the meaning: the proofs hold the two to each other.
-const STRIDE: usize = 64;
+const STRIDE: usize = scope::MOST_EVENTS;
 
 const ENTRIES: usize = STRIDE * STRIDE;
 

@@ -12,8 +12,7 @@ ghost use Rattle.ladder.specs.Climbing.{Span, RunFirst, RunPast, Reach, 
 ghost use Rattle.ladder.specs.Climbing.{Grading, Graded, RecordCleared, GradesCleared, ToClimb};
 use plan::Plan;
 use plan::Record;
-
-const TOP_GRADE: u8 = plan::TOP_LEVEL as u8;
+use scope::TOP_LEVEL;
 
 fn place_of(x: u16) -> usize
     ensures { λ r. ⌜ r ≡ x ⌝ }
@@ -171,7 +170,7 @@ pub fn climb(d: &mut [i32], h: Plan, held: &[u8], levels: &mut [u8]) -> usize
         → Climbed p (now (d .entry)) (now (d .exit)) (now (levels .entry)) (now (levels .exit)) r) ⌝ }
 {
     let count = clear_grades(h, levels);
-    for y in 1..=TOP_GRADE {
+    for y in 1..=TOP_LEVEL {
         climb_grade(d, h, held, y, levels);
     }
     count

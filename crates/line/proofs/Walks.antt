@@ -18,7 +18,8 @@ use Rattle.text.proofs.Cuts.{cut, cut-in, after-step, after-end, split-until}
 use Rattle.text.proofs.Forms.{events-form, rule-form, wish-form, other-form}
 use Rattle.meaning.specs.Plan.{Plan}
 use Rattle.meaning.specs.Reading.{TAB, LINE-FEED, split, numberOf, numbers, join, Form, wrong, formOf, lineForm, lineStep, readPieces, afterStep, plan, refused}
-use Rattle.plan.specs.Lines.{restOf, orNone, Fielded, wordForm}
+use Rattle.meaning.specs.Numbers.{WRONG-FORM}
+use Rattle.line.specs.Lines.{restOf, orNone, Fielded, wordForm}
 
 -- ---- fields
 
@@ -123,7 +124,7 @@ more line p l (m ∷ ms) b xs e = refl
 
 module _ (s : List ℕ) (at k line : ℕ) (p : Plan) (h : at < length s) (q : k ≡ at + until LINE-FEED (slice at (length s) s)) where
   -- the line has no line feed
-  pub pieces-last : k ≡ length s → readPieces (split LINE-FEED (slice at (length s) s)) line p ≡ refused 2 line
+  pub pieces-last : k ≡ length s → readPieces (split LINE-FEED (slice at (length s) s)) line p ≡ refused WRONG-FORM line
   pieces-last e =
       let n : length (slice at k s) ≡ 0 → ⊥ = λ (z : length (slice at k s) ≡ 0). omega (arith, length-slice at k s (omega arith)) in
       rw (cut LINE-FEED s at (length s) (omega arith) (omega arith), ← q, after-end LINE-FEED s k (length s) e, ne-eqb (length (slice at k s)) 0 n)
@@ -139,6 +140,6 @@ pub pieces-end : (s : List ℕ) (at line : ℕ) (p : Plan) → at ≡ length s �
 unfolding split
 pieces-end s at line p e h = rw (e, slice-empty (length s) s, lt-ltb 1 line h)
 
-pub pieces-empty : (s : List ℕ) (at line : ℕ) (p : Plan) → at ≡ length s → line ≡ 1 → readPieces (split LINE-FEED (slice at (length s) s)) line p ≡ refused 2 1
+pub pieces-empty : (s : List ℕ) (at line : ℕ) (p : Plan) → at ≡ length s → line ≡ 1 → readPieces (split LINE-FEED (slice at (length s) s)) line p ≡ refused WRONG-FORM 1
 unfolding split
 pieces-empty s at line p e h = rw (e, slice-empty (length s) s, h)

@@ -8,8 +8,8 @@ use lib.Seq.{slice, sets, sets-eq, take-at, drop-at, length-take-le}
 use lib.IntN.{ℤ, pos, negℤ, natAbs, _+ℤ_, _-ℤ_}
 use Rattle.ticks.proofs.Ticks.{sum, ≡←}
 use Rattle.meaning.specs.Plan as M
 use Rattle.plan.specs.Held.{rowOf}
-use Rattle.plan.specs.Lines.{asRow}
+use Rattle.line.specs.Lines.{asRow}
 
 -- what was stored from place i on
 pub sets-slice : (l vs : List ℕ) (i : ℕ) → i + length vs ≤ length l → slice i (i + length vs) (sets l i vs) ≡ vs

@@ -10,16 +10,15 @@ use lib.Seq.{slice, sets}
 use lib.IntN.{ℤ, pos, natAbs}
 use Rattle.meaning.specs.Plan as M
 use Rattle.meaning.specs.Plan.{MOST-EVENTS, MOST-RECORDS, MOST-LEVELS-TOGETHER}
-use Rattle.meaning.specs.Reading.{TAB, item, numbers, allLevels, Form, eventsLine, ruleLine, wishLine, wrong, eventsForm, ruleForm, wishForm, taken, fault, lineStep, withRecord, levelsTogether, LINE-FEED, split, readPieces, plan, empty}
+use Rattle.meaning.specs.Reading.{TAB, item, numbers, allLevels, Form, eventsLine, ruleLine, wishLine, wrong, eventsForm, ruleForm, wishForm, taken, fault, lineStep, withRecord, levelsTogether}
 use Rattle.text.specs.Bytes.{after}
 use Rattle.text.specs.declared.Word.{Word}
 use Rattle.text.specs.declared.Word.the-variants.{Events, Rule, Wish, Other}
-use Rattle.plan.specs.Held.{levelsIn, rowOf, verdictOf, Holds, LevelsHeld}
+use Rattle.plan.specs.Held.{levelsIn, rowOf}
 use Rattle.plan.specs.declared.Record.{Record}
-use Rattle.plan.specs.declared.Fields.{Fields}
-use Rattle.plan.specs.declared.Answer.{Answer}
-use Rattle.plan.specs.declared.Line.{Line}
-use Rattle.plan.specs.declared.Line.the-variants.{Fault, Head, Entry}
+use Rattle.line.specs.declared.Fields.{Fields}
+use Rattle.line.specs.declared.Line.{Line}
+use Rattle.line.specs.declared.Line.the-variants.{Fault, Head, Entry}
 
 -- ---- the numbers of a line
 
@@ -111,11 +110,3 @@ abbrev pub Says : ℕ → Form → ℕ → ℕ → ℕ → List ℕ → List ℕ
 Says line f n count used before after (Fault k) = Faulted line f n count used before after k
 Says line f n count used before after (Head m h) = Headed line f before after m h
 Says line f n count used before after (Entry r) = Entered line f n count used before after r
-
--- ---- what the lines of a text give
-
--- the verdict, and where it is a plan its image in memory; after a fault only the area's rest is known
-pub record Walked (text before after : List ℕ) (r : Answer) : Type 0 where
-  pub verdict : r .verdict ≡ verdictOf (readPieces (split LINE-FEED text) 1 empty)
-  pub found : (p : M.Plan) → readPieces (split LINE-FEED text) 1 empty ≡ plan p → Holds p (r .plan) × LevelsHeld p before after
-  pub above : (i : ℕ) → MOST-LEVELS-TOGETHER ≤ i → getD after i 0 ≡ getD before i 0

@@ -20,6 +20,7 @@ use Rattle.meaning.proofs.Fair.{best-levels}
 use Rattle.meaning.proofs.Chains.{chain-excludes}
 use Rattle.meaning.proofs.Exists.{plan-held}
 use Rattle.meaning.proofs.Solve.{plan-solved}
+use Rattle.meaning.specs.Numbers.{AREA-TOO-SHORT}
 
 -- ---- of a plan
 
@@ -48,10 +49,10 @@ pub record Faultless (r : Reading) : Type 0 where
 pub heard-faultless : (a : Areas) (text : List ℕ) → Faultless (heard a text)
 heard-faultless a text = go (longEnough a)
   where
-    never : (p : Plan) → refused 7 0 ≡ plan p → WithoutFault p
+    never : (p : Plan) → refused AREA-TOO-SHORT 0 ≡ plan p → WithoutFault p
     never p e = absurd (let z : _≡_ {A = ℕ} 0 1 = cc in omega arith)
 
-    go : (b : Bool) → Faultless (cond b (read text) (refused 7 0))
+    go : (b : Bool) → Faultless (cond b (read text) (refused AREA-TOO-SHORT 0))
     go true = record { faultless = λ p e. read-faultless text e }
     go false = record { faultless = never }
 

@@ -18,6 +18,7 @@ use Rattle.meaning.specs.Reading.{Form, eventsLine, ruleLine, wishLine, 
 use Rattle.meaning.specs.Faultless.{GoodRecord, WithoutFault}
 use Rattle.meaning.proofs.Peaks.{peaked-sound}
 use Rattle.meaning.proofs.Tests.{both, event-below, count-from, count-to, levels-mild, apart, in-range}
+use Rattle.meaning.specs.Numbers.{WRONG-FORM, TOO-MANY}
 
 -- ---- a form that a line has: a wish has a level
 
@@ -195,7 +196,7 @@ pieces-without : (ps : List (List ℕ)) (line : ℕ) (p : Plan) {q : Plan} → 1
 pieces-without [] line p h w e = unread e
 pieces-without (l ∷ []) line p {q} h w e = go (eqb (length l) 0 && ltb 1 line) refl e
   where
-    go : (t : Bool) → (eqb (length l) 0 && ltb 1 line) ≡ t → cond t (plan p) (refused 2 line) ≡ plan q → WithoutFault q
+    go : (t : Bool) → (eqb (length l) 0 && ltb 1 line) ≡ t → cond t (plan p) (refused WRONG-FORM line) ≡ plan q → WithoutFault q
     go true d e = is-plan e (w (ltb-true 1 line (both (eqb (length l) 0) (ltb 1 line) d .1)))
     go false d e = unread e
 pieces-without (l ∷ m ∷ ms) line p {q} h w e = go (lineStep line p (lineForm l)) refl (λ r v. pieces-without (m ∷ ms) (line + 1) r (omega arith) (λ g. v)) e
@@ -209,6 +210,6 @@ pub read-faultless : (text : List ℕ) {p : Plan} → read text ≡ plan p → W
 unfolding read
 read-faultless text {p} e = go (ltb MOST-BYTES (length text)) e
   where
-    go : (t : Bool) → cond t (refused 3 0) (readPieces (split LINE-FEED text) 1 empty) ≡ plan p → WithoutFault p
+    go : (t : Bool) → cond t (refused TOO-MANY 0) (readPieces (split LINE-FEED text) 1 empty) ≡ plan p → WithoutFault p
     go true e = unread e
     go false e = pieces-without (split LINE-FEED text) 1 empty (omega arith) (λ h. absurd (omega arith)) e

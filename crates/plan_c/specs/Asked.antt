@@ -8,8 +8,9 @@ use lib.ListN.{getD}
 use lib.IntN.{ℤ, pos}
 use Rattle.meaning.specs.Plan.{MOST-RECORDS}
 use Rattle.plan.specs.declared.Record.{Record}
-use Rattle.plan.specs.declared.Answer.{Answer}
-use Rattle.plan.specs.Held.{Read, number, place, blank}
+use Rattle.reader.specs.declared.Answer.{Answer}
+use Rattle.plan.specs.Held.{blank}
+use Rattle.reader.specs.Heard.{Read, number, place}
 
 -- r is what `value` takes from the reader's answer, which also says what is left in the area
 pub record Asked {A : Type 0} (text before after : List ℕ) (value : Answer → A) (r : A) : Type 0 where

@@ -2,14 +2,14 @@
 ghost use mathlib.Core.Path.{_≡_};
 ghost use Rattle.plan_c.specs.Asked.{Asked, numberIn, placeIn, headIn, fieldOf, fieldIn};
 use plan::Record;
-use plan::Verdict;
+use reader::Verdict;
 
 // The outcome's number; 0 for a plan.
 #[no_mangle]
 pub extern "C" fn plan_number(text: &[u8], levels: &mut [u8]) -> u8
     ensures { λ r. ⌜ Asked (now (text .entry)) (now (levels .entry)) (now (levels .exit)) numberIn r ⌝ }
 {
-    let answer = plan::read(text, levels);
+    let answer = reader::read(text, levels);
     let verdict = answer.verdict;
     match verdict {
         Verdict::Taken => 0,
@@ -22,7 +22,7 @@ pub extern "C" fn plan_number(text: &[u8], levels: &mut [u8]) -> u8
 pub extern "C" fn plan_place(text: &[u8], levels: &mut [u8]) -> usize
     ensures { λ r. ⌜ Asked (now (text .entry)) (now (levels .entry)) (now (levels .exit)) placeIn r ⌝ }
 {
-    let answer = plan::read(text, levels);
+    let answer = reader::read(text, levels);
     let verdict = answer.verdict;
     match verdict {
         Verdict::Taken => 0,
@@ -35,7 +35,7 @@ pub extern "C" fn plan_place(text: &[u8], levels: &mut [u8]) -> usize
 pub extern "C" fn plan_head(text: &[u8], levels: &mut [u8], which: usize) -> usize
     ensures { λ r. ⌜ Asked (now (text .entry)) (now (levels .entry)) (now (levels .exit)) (headIn which) r ⌝ }
 {
-    let answer = plan::read(text, levels);
+    let answer = reader::read(text, levels);
     let p = answer.plan;
     if which == 0 {
         return p.events;
@@ -82,9 +82,9 @@ fn field_of(r: Record, which: usize) -> i32
 pub extern "C" fn plan_field(text: &[u8], levels: &mut [u8], k: usize, which: usize) -> i32
     ensures { λ r. ⌜ Asked (now (text .entry)) (now (levels .entry)) (now (levels .exit)) (fieldIn k which) r ⌝ }
 {
-    let answer = plan::read(text, levels);
+    let answer = reader::read(text, levels);
     let p = answer.plan;
-    if plan::MOST_RECORDS <= k {
+    if scope::MOST_RECORDS <= k {
         return 0;
     }
     let r = p.records[k];

@@ -13,7 +13,7 @@ use native.Mathlib.Decide.{decLt}
 use borrow.Author.Tests.{ltb-true, ltb-false, lt-ltb, le-ltb}
 use mir.Syntax.{w64}
 use mir.Val.{SFits, Fits}
-use Rattle.text.specs.Written.{digitsWithin, decimal, decimalZ}
+use Rattle.print.specs.Written.{digitsWithin, decimal, decimalZ}
 
 -- room that is not used does not matter
 enough : (f g n : ℕ) → n < f → n < g → digitsWithin f n ≡ digitsWithin g n

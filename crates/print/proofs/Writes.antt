@@ -6,7 +6,7 @@ use native.Mathlib.Omega.{arith}
 use native.Mathlib.Numerals.{add-one}
 use lib.ListN.{length, length-append, set, take, getD}
 use lib.Seq.{sets, length-sets, take-suc, take-length}
-use Rattle.text.specs.Written.{Wrote}
+use Rattle.print.specs.Written.{Wrote}
 
 sets-join : (s : List ℕ) (at k : ℕ) (x y : List ℕ) → k ≡ at + length x → sets (sets s at x) k y ≡ sets s at (x ++ y)
 sets-join s at k [] y e = let q : k ≡ at = omega arith in ap (λ (i : ℕ). sets s i y) q

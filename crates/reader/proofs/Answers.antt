@@ -9,14 +9,16 @@ use Rattle.meaning.specs.Plan as M
 use Rattle.meaning.specs.Plan.{MOST-LEVELS-TOGETHER}
 use Rattle.meaning.specs.Reading as R
 use Rattle.meaning.specs.Reading.{Reading, plan, refused, empty}
-use Rattle.plan.specs.declared.Answer.{Answer}
-use Rattle.plan.specs.declared.Verdict.the-variants.{Taken, Refused}
-use Rattle.plan.specs.Held.{Holds, LevelsHeld, Read, heard, verdictOf, planIn}
-use Rattle.plan.proofs.Steps.{lines}
+use Rattle.meaning.specs.Numbers.{TOO-MANY, AREA-TOO-SHORT}
+use Rattle.reader.specs.declared.Answer.{Answer}
+use Rattle.reader.specs.declared.Verdict.the-variants.{Taken, Refused}
+use Rattle.plan.specs.Held.{Holds, LevelsHeld}
+use Rattle.reader.specs.Heard.{Read, heard, verdictOf, planIn}
+use Rattle.reader.proofs.Steps.{lines}
 
 -- ---- the reading
 
-pub text-long : (text : List ℕ) → 60000 < length text → R.read text ≡ refused 3 0
+pub text-long : (text : List ℕ) → 60000 < length text → R.read text ≡ refused TOO-MANY 0
 unfolding R.read
 text-long text h = rw (lt-ltb 60000 (length text) h)
 
@@ -44,7 +46,7 @@ cleared-again before cleared walked after a n above b = record { long = b .long 
 -- ---- the answer
 
 module _ (text before after : List ℕ) (r : Answer) where
-  pub read-short : length before < 8192 → r .verdict ≡ Refused 7 0 → Holds empty (r .plan) → after ≡ before → Read text before after r
+  pub read-short : length before < 8192 → r .verdict ≡ Refused AREA-TOO-SHORT 0 → Holds empty (r .plan) → after ≡ before → Read text before after r
   read-short h v o e =
       let no = lt-leb 8192 (length before) h in
       record { verdict = rw no v; held = rw no o; short = λ _. e; levels = λ l. absurd (omega arith) }

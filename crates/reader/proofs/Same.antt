@@ -8,11 +8,12 @@ use lib.Dec.{leb, ltb}
 use lib.ListN.{length, getD}
 use lib.Seq.{ext-getD}
 use Rattle.meaning.specs.Plan as M
 use Rattle.plan.specs.declared.Record.{Record}
 use Rattle.plan.specs.declared.Plan.{Plan}
-use Rattle.plan.specs.declared.Verdict.{Verdict}
-use Rattle.plan.specs.declared.Answer.{Answer}
-use Rattle.plan.specs.Held.{blank, Holds, LevelsHeld, Read, heard, planIn}
+use Rattle.reader.specs.declared.Verdict.{Verdict}
+use Rattle.reader.specs.declared.Answer.{Answer}
+use Rattle.plan.specs.Held.{blank, Holds, LevelsHeld}
+use Rattle.reader.specs.Heard.{Read, heard, planIn}
 
 abbrev planOf : ℕ → ℕ → ℕ → ℕ → List Record → Plan
 planOf n z k u rs = record { events = n; horizon = z; count = k; used = u; records = rs }

@@ -13,14 +13,17 @@ use Rattle.text.specs.declared.Word.{Word}
 use Rattle.text.proofs.Cuts.{cut-in}
 use Rattle.meaning.specs.Plan as M
 use Rattle.meaning.specs.Reading.{TAB, LINE-FEED, numbers, split, readPieces, afterStep, lineStep, formOf, Reading, plan, refused, empty, withRecord}
+use Rattle.meaning.specs.Numbers.{WRONG-FORM}
 use Rattle.plan.specs.declared.Plan.{Plan}
 use Rattle.plan.specs.declared.Record.{Record}
-use Rattle.plan.specs.declared.Verdict.the-variants.{Taken, Refused}
-use Rattle.plan.specs.Held.{levelsIn, Holds, LevelsHeld, verdictOf}
-use Rattle.plan.specs.Lines.{wordForm, Counts, Faulted, Headed, Entered, Walked}
-use Rattle.plan.proofs.Judges.{step-wrong}
+use Rattle.reader.specs.declared.Verdict.the-variants.{Taken, Refused}
+use Rattle.plan.specs.Held.{levelsIn, Holds, LevelsHeld}
+use Rattle.reader.specs.Heard.{verdictOf}
+use Rattle.line.specs.Lines.{wordForm, Counts, Faulted, Headed, Entered}
+use Rattle.reader.specs.Heard.{Walked}
+use Rattle.line.proofs.Judges.{step-wrong}
 use Rattle.plan.proofs.Growth.{holds-more, held-more}
-use Rattle.plan.proofs.Walks as W
+use Rattle.line.proofs.Walks as W
 
 abbrev pub lines : List ℕ → Reading
 lines text = readPieces (split LINE-FEED text) 1 empty
@@ -57,7 +60,7 @@ module _ (text before levels : List ℕ) (h : Plan) (line at : ℕ) (w : Walking
   counts = record { events = sym (w .holds .events); records = sym (w .holds .count); levels = sym (w .holds .used) }
 
   -- ---- after the last line
-  pub nothing-read : length text ≤ at → line ≡ 1 → lines text ≡ refused 2 1
+  pub nothing-read : length text ≤ at → line ≡ 1 → lines text ≡ refused WRONG-FORM 1
   nothing-read e one = sym (w .rest) ∙ W.pieces-empty text at line (w .p) (omega (arith, w .inside)) one
 
   pub all-read : length text ≤ at → (line ≡ 1 → ⊥) → lines text ≡ plan (w .p)
@@ -68,7 +71,7 @@ module _ (text before levels : List ℕ) (h : Plan) (line at : ℕ) (w : Walking
     pub line-in : (at ≤ k) × (k ≤ length text)
     line-in = (omega (arith, ends), omega (arith, ends, cut-in LINE-FEED text at (length text) (omega arith) (omega arith)))
 
-    pub unended : k ≡ length text → lines text ≡ refused 2 line
+    pub unended : k ≡ length text → lines text ≡ refused WRONG-FORM line
     unended e = sym (w .rest) ∙ W.pieces-last text at k line (w .p) on ends e
 
     module _ (inner : k < length text) (first : ℕ) (cuts : first ≡ at + until TAB (slice at k text)) (word : Word) (said : word ≡ wordOf (slice at first text)) where
@@ -79,7 +82,7 @@ module _ (text before levels : List ℕ) (h : Plan) (line at : ℕ) (w : Walking
       stepped = sym (w .rest) ∙ W.pieces-step text at k line (w .p) on ends inner ∙ rw (W.form-cut text at k first (line-in .0) (line-in .1) cuts)
 
       -- a field that is no number
-      pub unread : numbers (after TAB (slice first k text)) ≡ none → lines text ≡ refused 2 line
+      pub unread : numbers (after TAB (slice first k text)) ≡ none → lines text ≡ refused WRONG-FORM line
       unread n = stepped ∙ rw (n, step-wrong line (w .p))
 
       module _ (vs : List ℤ) (n : numbers (after TAB (slice first k text)) ≡ some vs) where

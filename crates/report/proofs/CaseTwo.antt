@@ -10,8 +10,8 @@ use Rattle.meaning.specs.Reading.{read, split, digitsOf, numberOf, lineForm, li
 use Rattle.meaning.specs.Outcome.{refusal, over}
 use Rattle.meaning.specs.Known.{Known, bytes, table}
 use Rattle.meaning.proofs.KnownAlone.{known-alone}
-use Rattle.plan.specs.Held.{planIn}
-use Rattle.text.specs.Written.{digitsWithin, decimal}
+use Rattle.reader.specs.Heard.{planIn}
+use Rattle.print.specs.Written.{digitsWithin, decimal}
 use Rattle.report.specs.Printed.{printed}
 use Rattle.report.specs.Answer.{AREA, Answered}
 

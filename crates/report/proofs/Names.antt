@@ -8,8 +8,8 @@ use borrow.Author.Tests.{eq-eqb, ne-eqb, lt-ltb, le-ltb}
 use lib.IntN.{ℤ, pos, negℤ}
 use lib.ListN.{length, getD}
 use Rattle.meaning.specs.Plan as M
-use Rattle.meaning.specs.Plan.{nothing, recordAt}
-use Rattle.meaning.specs.Bounds.{Bound, upper, lower, horizonUpper, horizonLower, recordBounds, horizonBounds, bounds}
+use Rattle.meaning.specs.Plan.{MOST-RECORDS, nothing, recordAt}
+use Rattle.meaning.specs.Bounds.{Bound, HORIZON-CODES, upper, lower, horizonUpper, horizonLower, recordBounds, horizonBounds, bounds}
 use Rattle.meaning.specs.Faultless.{WithoutFault}
 use Rattle.plan.specs.declared.Record.{Record}
 use Rattle.plan.specs.declared.Plan.{Plan}
@@ -29,43 +29,43 @@ module _ (p : M.Plan) (c : ℕ) where
     pub name-lower : (c % 2 ≡ 0 → ⊥) → bound (r .b) (r .a) (negℤ (r .lo)) c ≡ ofRecord p c
     name-lower o = rw (ne-eqb (c % 2) 0 o, e) (ap (bound _ _ _) (omega arith))
 
-  module _ (l : 512 ≤ c) where
-    pub name-latest : c % 2 ≡ 0 → bound 0 ((c - 512) / 2) (pos (p .horizon)) c ≡ ofHorizon p c
+  module _ (l : HORIZON-CODES ≤ c) where
+    pub name-latest : c % 2 ≡ 0 → bound 0 ((c - HORIZON-CODES) / 2) (pos (p .horizon)) c ≡ ofHorizon p c
     name-latest o = rw (eq-eqb (c % 2) 0 o) (ap (bound _ _ _) (omega arith))
 
-    pub name-earliest : (c % 2 ≡ 0 → ⊥) → bound ((c - 512) / 2) 0 (pos 0) c ≡ ofHorizon p c
+    pub name-earliest : (c % 2 ≡ 0 → ⊥) → bound ((c - HORIZON-CODES) / 2) 0 (pos 0) c ≡ ofHorizon p c
     name-earliest o = rw (ne-eqb (c % 2) 0 o) (ap (bound _ _ _) (omega arith))
 
-  pub name-record : c < 512 → named p c ≡ ofRecord p c
+  pub name-record : c < HORIZON-CODES → named p c ≡ ofRecord p c
   unfolding named
-  name-record l = rw (lt-ltb c 512 l)
+  name-record l = rw (lt-ltb c HORIZON-CODES l)
 
-  pub name-horizon : 512 ≤ c → named p c ≡ ofHorizon p c
+  pub name-horizon : HORIZON-CODES ≤ c → named p c ≡ ofHorizon p c
   unfolding named
-  name-horizon l = rw (le-ltb c 512 l)
+  name-horizon l = rw (le-ltb c HORIZON-CODES l)
 
 -- ---- the bounds of a plan have names
 
 module _ (p : M.Plan) (k : ℕ) where
-  module _ (l : k < 256) where
+  module _ (l : k < MOST-RECORDS) where
     upper-named : named p (2 * k) ≡ upper k (recordAt p k)
     upper-named = let q : (2 * k) / 2 ≡ k = omega arith in name-record p (2 * k) (omega arith) ∙ rw (eq-eqb ((2 * k) % 2) 0 (omega arith), q)
 
     lower-named : named p (2 * k + 1) ≡ lower k (recordAt p k)
     lower-named = let q : (2 * k + 1) / 2 ≡ k = omega arith in name-record p (2 * k + 1) (omega arith) ∙ rw (ne-eqb ((2 * k + 1) % 2) 0 (λ e. omega arith), q)
 
-  latest-named : named p (512 + 2 * k) ≡ horizonUpper (p .horizon) k
-  latest-named = let q : (512 + 2 * k - 512) / 2 ≡ k = omega arith in name-horizon p (512 + 2 * k) (omega arith) ∙ rw (eq-eqb ((512 + 2 * k) % 2) 0 (omega arith), q)
+  latest-named : named p (HORIZON-CODES + 2 * k) ≡ horizonUpper (p .horizon) k
+  latest-named = let q : (HORIZON-CODES + 2 * k - HORIZON-CODES) / 2 ≡ k = omega arith in name-horizon p (HORIZON-CODES + 2 * k) (omega arith) ∙ rw (eq-eqb ((HORIZON-CODES + 2 * k) % 2) 0 (omega arith), q)
 
-  earliest-named : named p (513 + 2 * k) ≡ horizonLower k
-  earliest-named = let q : (513 + 2 * k - 512) / 2 ≡ k = omega arith in name-horizon p (513 + 2 * k) (omega arith) ∙ rw (ne-eqb ((513 + 2 * k) % 2) 0 (λ e. omega arith), q)
+  earliest-named : named p (HORIZON-CODES + 2 * k + 1) ≡ horizonLower k
+  earliest-named = let q : (HORIZON-CODES + 2 * k + 1 - HORIZON-CODES) / 2 ≡ k = omega arith in name-horizon p (HORIZON-CODES + 2 * k + 1) (omega arith) ∙ rw (ne-eqb ((HORIZON-CODES + 2 * k + 1) % 2) 0 (λ e. omega arith), q)
 
 module _ (p : M.Plan) (b : Bound) where
   -- b is x, and x has its name
   same-name : (x : Bound) → b ≡ x → named p (x .code) ≡ x → named p (b .code) ≡ b
   same-name x e h = rw e h
 
-  records-named : (k : ℕ) (rs : List M.Record) → k + length rs ≤ 256 → ((i : ℕ) → i < length rs → getD rs i nothing ≡ recordAt p (k + i)) → List·Memᴰ b (recordBounds k rs) → named p (b .code) ≡ b
+  records-named : (k : ℕ) (rs : List M.Record) → k + length rs ≤ MOST-RECORDS → ((i : ℕ) → i < length rs → getD rs i nothing ≡ recordAt p (k + i)) → List·Memᴰ b (recordBounds k rs) → named p (b .code) ≡ b
   records-named k [] l f m = absurd (List·Memᴰ·not-nil m)
   records-named k (r ∷ rs) l f m = first (List·Memᴰ·cases-cons m) (λ n. records-named (suc k) rs (omega arith) (λ i h. f (suc i) (omega arith) ∙ ap (recordAt p) (omega arith)) n)
     where

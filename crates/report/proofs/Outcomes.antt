@@ -20,8 +20,9 @@ use Rattle.meaning.proofs.ReadGood.{read-faultless}
 use Rattle.meaning.proofs.Over.{over-front, over-room}
 use Rattle.meaning.proofs.Refusals.{Refusal, refused-number}
 use Rattle.meaning.proofs.Wishes.{wishes-few}
+use Rattle.meaning.specs.Numbers.{AREA-TOO-SHORT}
 use Rattle.plan.specs.declared.Plan.{Plan as Held}
-use Rattle.plan.specs.Held.{planIn}
+use Rattle.reader.specs.Heard.{planIn}
 use Rattle.solver.specs.declared.Outcome.{Outcome as Found}
 use Rattle.solver.specs.Settled.{numberOf, placeOf}
 use Rattle.report.specs.Printed.{line, atLines, levelLines, stepLines, printed}
@@ -111,7 +112,7 @@ module _ {text : List ℕ} {times : List ℤ} {levels chain : List ℕ} {no k : 
   a = l .before
 
   right-read : Right (read text) (l .promise .outcome)
-  right-read = subst (λ (b : Bool). Right (cond b (read text) (refused 7 0)) (l .promise .outcome)) (l .enough) (l .promise .right)
+  right-read = subst (λ (b : Bool). Right (cond b (read text) (refused AREA-TOO-SHORT 0)) (l .promise .outcome)) (l .enough) (l .promise .right)
 
   pub left-solved : no ≡ 0 → LeftSolved text times levels k
   left-solved e = go (l .promise .outcome) right-read (l .promise .numbered) (l .promise .placed) (l .promise .writes)

@@ -10,9 +10,9 @@ use mir.Syntax.{w64}
 use mir.Val.{SFits}
 use Rattle.meaning.specs.Reading.{TAB, LINE-FEED}
 use Rattle.meaning.specs.Outcome.{over}
-use Rattle.text.specs.Written.{decimalZ, Wrote}
-use Rattle.text.proofs.Decimals.{decimal-most}
-use Rattle.text.proofs.Writes.{wrote-none, wrote-then, wrote-as, wrote-long}
+use Rattle.print.specs.Written.{decimalZ, Wrote}
+use Rattle.print.proofs.Decimals.{decimal-most}
+use Rattle.print.proofs.Writes.{wrote-none, wrote-then, wrote-as, wrote-long}
 use Rattle.report.specs.Printed.{fields, line}
 use Rattle.report.specs.Put.{Put}
 

@@ -1,16 +1,17 @@
 -- What `answer` promises: the printed form of a right outcome at the front of the area, or nothing where the area is too short.
 use mathlib.Core.Path.{_≡_}
 use mathlib.Core.List.{List}
-use Prim.Native.Nat.{ℕ, _≤_, _<_}
+use Prim.Native.Nat.{ℕ, _+_, _*_, _≤_, _<_}
 use lib.ListN.{length}
+use Rattle.meaning.specs.Plan.{MOST-EVENTS, MOST-RECORDS}
 use Rattle.meaning.specs.Reading.{read}
 use Rattle.meaning.specs.Outcome.{Outcome, Right, over}
-use Rattle.plan.specs.Held.{planIn}
+use Rattle.reader.specs.Heard.{planIn}
 use Rattle.report.specs.Printed.{printed}
 
--- one line `solved`, 64 lines `at` and 256 lines `level`, of at most 64 bytes each
+-- one line `solved`, a line `at` for each event and a line `level` for each wish, of at most 64 bytes each
 abbrev pub AREA : ℕ
-AREA = 20544
+AREA = 64 * (1 + MOST-EVENTS + MOST-RECORDS)
 
 -- all but the printed form keeps its old contents
 pub record Told (text before after : List ℕ) (r : ℕ) : Type 0 where

@@ -7,10 +7,10 @@ use lib.ListN.{length}
 use lib.IntN.{ℤ, pos}
 use Rattle.meaning.specs.Plan.{Record, rule, wish, Plan, recordAt}
 use Rattle.meaning.specs.Reading.{TAB, LINE-FEED}
-use Rattle.meaning.specs.Bounds.{Bound, upper, lower, horizonUpper, horizonLower}
+use Rattle.meaning.specs.Bounds.{Bound, HORIZON-CODES, upper, lower, horizonUpper, horizonLower}
 use Rattle.meaning.specs.Outcome.{Outcome, solved, none, refusal}
 use Rattle.meaning.specs.Known.{bytes}
-use Rattle.text.specs.Written.{decimalZ}
+use Rattle.print.specs.Written.{decimalZ}
 
 -- each number behind a tab
 abbrev pub fields : List ℤ → List ℕ
@@ -33,15 +33,15 @@ levelLines k (rule a b lo hi ∷ rs) ls = levelLines (suc k) rs ls
 levelLines k (wish a b lo vs ∷ rs) [] = []
 levelLines k (wish a b lo vs ∷ rs) (l ∷ ls) = line (bytes "level") (pos k ∷ pos l ∷ []) ++ levelLines (suc k) rs ls
 
--- the bound that a code names: 2k and 2k + 1 of record k, 512 + 2e and 513 + 2e of event e
+-- the bound that a code names: 2k and 2k + 1 of record k, from HORIZON-CODES on two for each event
 abbrev pub ofRecord : Plan → ℕ → Bound
 ofRecord p c = cond (eqb (c % 2) 0) (upper (c / 2) (recordAt p (c / 2))) (lower (c / 2) (recordAt p (c / 2)))
 
 abbrev pub ofHorizon : Plan → ℕ → Bound
-ofHorizon p c = cond (eqb (c % 2) 0) (horizonUpper (p .horizon) ((c - 512) / 2)) (horizonLower ((c - 512) / 2))
+ofHorizon p c = cond (eqb (c % 2) 0) (horizonUpper (p .horizon) ((c - HORIZON-CODES) / 2)) (horizonLower ((c - HORIZON-CODES) / 2))
 
 unfoldable pub named : Plan → ℕ → Bound
-named p c = cond (ltb c 512) (ofRecord p c) (ofHorizon p c)
+named p c = cond (ltb c HORIZON-CODES) (ofRecord p c) (ofHorizon p c)
 
 -- `step`, from, to, weight, code
 abbrev pub stepLine : Bound → List ℕ

@@ -7,25 +7,30 @@ ghost use lib.Dec.{eqb};
 ghost use lib.IntN.{pos};
 ghost use lib.ListN.{length, take};
 ghost use Rattle.meaning.specs.Reading.{TAB, read};
-ghost use Rattle.text.specs.Written.{decimalZ};
+ghost use Rattle.print.specs.Written.{decimalZ};
 ghost use Rattle.report.specs.Printed as P;
 ghost use Rattle.report.specs.Printed.{line, atLines, levelLines, ofRecord, ofHorizon, stepLine, stepLines, printed};
+ghost use Rattle.meaning.specs.Bounds.{HORIZON-CODES};
 ghost use Rattle.meaning.specs.Plan as M;
 ghost use Rattle.meaning.specs.Plan.{wishes, recordAt, MOST-EVENTS};
 ghost use Rattle.meaning.specs.Outcome.{solved, none, refusal};
 ghost use Rattle.meaning.specs.Faultless.{WithoutFault};
-ghost use Rattle.plan.specs.Held.{Holds, rowOf, planIn};
+ghost use Rattle.plan.specs.Held.{Holds, rowOf};
+ghost use Rattle.reader.specs.Heard.{planIn};
 ghost use Rattle.report.specs.Put.{Put};
 ghost use Rattle.report.specs.Rows.{levelLine, boundOf};
 ghost use Rattle.report.specs.Left.{Left, Timed};
 ghost use Rattle.report.specs.Answer.{AREA, Told, Answered};
 use plan::Plan;
 use plan::Record;
+use scope::MOST_EVENTS;
+use scope::MOST_RECORDS;
 
-// The bytes that a printed form has at most: a line `solved`, 64 lines `at` and 256 lines `level`, of at most 64 bytes each.
-pub const AREA: usize = 20544;
+// The first code of the horizon, as a code.
+const HORIZON_CODES: u16 = scope::HORIZON_CODES as u16;
 
-const MOST_EVENTS: usize = plan::MOST_EVENTS as usize;
+// The bytes that a printed form has at most: a line `solved`, a line `at` for each event and a line `level` for each wish, of at most 64 bytes each.
+pub const AREA: usize = 64 * (1 + MOST_EVENTS + MOST_RECORDS);
 
 // A number that is no larger than a `u32` can be.
 fn whole(n: usize) -> i64
@@ -40,7 +45,7 @@ fn put_number(out: &mut [u8], at: usize, x: i64) -> usize
     requires { ⌜ at + 21 ≤ length (now out) ⌝ }
     ensures { λ r. ⌜ Put (now (out .entry)) (now (out .exit)) at r 21 (TAB ∷ decimalZ x) ⌝ }
 {
-    text::put_field(out, at, x)
+    print::put_field(out, at, x)
 }
 
 // A line of a word and one number; the place after it.
@@ -48,9 +53,9 @@ fn put_one(out: &mut [u8], at: usize, word: &[u8], x: i64) -> usize
     requires { ⌜ (at + 64 ≤ length (now out)) × (length (now word) ≤ 8) ⌝ }
     ensures { λ r. ⌜ Put (now (out .entry)) (now (out .exit)) at r 64 (line (now (word .entry)) (x ∷ [])) ⌝ }
 {
-    let a = text::put_word(out, at, word);
+    let a = print::put_word(out, at, word);
     let b = put_number(out, a, x);
-    text::put_byte(out, b, b'\n')
+    print::put_byte(out, b, b'\n')
 }
 
 // A line of a word and two numbers; the place after it.
@@ -58,10 +63,10 @@ fn put_two(out: &mut [u8], at: usize, word: &[u8], x: i64, y: i64) -> usize
     requires { ⌜ (at + 64 ≤ length (now out)) × (length (now word) ≤ 8) ⌝ }
     ensures { λ r. ⌜ Put (now (out .entry)) (now (out .exit)) at r 64 (line (now (word .entry)) (x ∷ y ∷ [])) ⌝ }
 {
-    let a = text::put_word(out, at, word);
+    let a = print::put_word(out, at, word);
     let b = put_number(out, a, x);
     let c = put_number(out, b, y);
-    text::put_byte(out, c, b'\n')
+    print::put_byte(out, c, b'\n')
 }
 
 // A line of a word and four numbers; the place after it.
@@ -69,12 +74,12 @@ fn put_four(out: &mut [u8], at: usize, word: &[u8], x: i64, y: i64, z: i64, u: i
     requires { ⌜ (at + 128 ≤ length (now out)) × (length (now word) ≤ 8) ⌝ }
     ensures { λ r. ⌜ Put (now (out .entry)) (now (out .exit)) at r 128 (line (now (word .entry)) (x ∷ y ∷ z ∷ u ∷ [])) ⌝ }
 {
-    let a = text::put_word(out, at, word);
+    let a = print::put_word(out, at, word);
     let b = put_number(out, a, x);
     let c = put_number(out, b, y);
     let d = put_number(out, c, z);
     let e = put_number(out, d, u);
-    text::put_byte(out, e, b'\n')
+    print::put_byte(out, e, b'\n')
 }
 
 // The lines `at` of the first n times; the place after them.
@@ -161,10 +166,10 @@ fn of_record(r: Record, c: u16) -> Step
 
 // The bound of the horizon that a code names.
 fn of_horizon(horizon: u32, c: u16) -> Step
-    requires { ⌜ 512 ≤ c ⌝ }
+    requires { ⌜ HORIZON-CODES ≤ c ⌝ }
     ensures { λ s. ⌜ ((p : M.Plan) → horizon ≡ p .horizon → boundOf s ≡ ofHorizon p c) ⌝ }
 {
-    let e = (c - 512) / 2;
+    let e = (c - HORIZON_CODES) / 2;
     if c % 2 == 0 {
         Step {
             from: 0,
@@ -187,7 +192,7 @@ fn named(h: Plan, c: u16) -> Step
     requires { ⌜ length (h .records) ≡ 256 ⌝ }
     ensures { λ s. ⌜ ((p : M.Plan) → Holds p h → boundOf s ≡ P.named p c) ⌝ }
 {
-    if c < 512 {
+    if c < HORIZON_CODES {
         let k = (c / 2) as usize;
         of_record(h.records[k], c)
     } else {
@@ -253,8 +258,8 @@ fn put_solved(out: &mut [u8], h: Plan, w: usize, times: &[i64], levels: &[u8]) -
 fn plan_of(text: &[u8]) -> Plan
     ensures { λ r. ⌜ Holds (planIn (read (now (text .entry)))) r ⌝ }
 {
-    let mut held = [0u8; plan::MOST_LEVELS];
-    let answer = plan::read(text, &mut held);
+    let mut held = [0u8; scope::MOST_LEVELS];
+    let answer = reader::read(text, &mut held);
     answer.plan
 }
 
@@ -271,10 +276,10 @@ fn put_outcome(
     requires { ⌜ (AREA ≤ length (now out)) × Left (now text) (now times) (now levels) (now chain) number place ⌝ }
     ensures { λ r. ⌜ Told (now (text .entry)) (now (out .entry)) (now (out .exit)) r ⌝ }
 {
-    if number == 0 {
+    if number == scope::SOLVED {
         return put_solved(out, plan_of(text), place, times, levels);
     }
-    if number == 1 {
+    if number == scope::NO_TIMETABLE {
         return put_none(out, plan_of(text), chain, place);
     }
     put_refused(out, number, place)
@@ -288,7 +293,7 @@ pub fn answer(text: &[u8], out: &mut [u8]) -> usize
         return 0;
     }
     let mut times = [0i64; MOST_EVENTS];
-    let mut levels = [0u8; plan::MOST_RECORDS];
+    let mut levels = [0u8; MOST_RECORDS];
     let mut chain = [0u16; MOST_EVENTS];
     let o = solver::solve(text, &mut times, &mut levels, &mut chain);
     put_outcome(

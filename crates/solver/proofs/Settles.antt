@@ -18,11 +18,11 @@ use Rattle.meaning.proofs.ReadGood.{read-faultless}
 use Rattle.meaning.proofs.Refusals.{refused-number}
 use Rattle.meaning.proofs.Solve.{earliest-solved}
 use Rattle.plan.specs.declared.Plan.{Plan}
-use Rattle.plan.specs.declared.Answer.{Answer}
-use Rattle.plan.specs.declared.Verdict.{Verdict}
-use Rattle.plan.specs.declared.Verdict.the-variants as Said
-use Rattle.plan.specs.Held.{Read, planIn}
-use Rattle.plan.proofs.Answers.{read-taken, read-holds, read-held}
+use Rattle.reader.specs.declared.Answer.{Answer}
+use Rattle.reader.specs.declared.Verdict.{Verdict}
+use Rattle.reader.specs.declared.Verdict.the-variants as Said
+use Rattle.reader.specs.Heard.{Read, planIn}
+use Rattle.reader.proofs.Answers.{read-taken, read-holds, read-held}
 use Rattle.distances.specs.Matrix.{at, Started, Timing}
 use Rattle.distances.specs.Sweep.{Swept}
 use Rattle.distances.proofs.Sweep.{swept-written}

@@ -10,17 +10,18 @@ use Rattle.meaning.specs.Plan.{MOST-EVENTS, MOST-RECORDS}
 use Rattle.meaning.specs.Reading.{plan}
 use Rattle.meaning.specs.Outcome as O
 use Rattle.meaning.specs.Outcome.{Areas, Right, number, place, written, Promise}
+use Rattle.meaning.specs.Numbers.{SOLVED, NO-TIMETABLE, AREA-TOO-SHORT}
 use Rattle.plan.specs.declared.Plan.{Plan}
-use Rattle.plan.specs.declared.Verdict.{Verdict}
-use Rattle.plan.specs.declared.Verdict.the-variants as Said
+use Rattle.reader.specs.declared.Verdict.{Verdict}
+use Rattle.reader.specs.declared.Verdict.the-variants as Said
 use Rattle.ladder.specs.Memory.{InMemory}
 use Rattle.solver.specs.declared.Outcome.{Outcome}
 use Rattle.solver.specs.declared.Outcome.the-variants.{Solved, NoTimetable, Refused}
 
 -- the number and the place of section 3
 abbrev pub numberOf : Outcome → ℕ
-numberOf (Solved w) = 0
-numberOf (NoTimetable steps) = 1
+numberOf (Solved w) = SOLVED
+numberOf (NoTimetable steps) = NO-TIMETABLE
 numberOf (Refused k line) = k
 
 abbrev pub placeOf : Outcome → ℕ
@@ -36,7 +37,7 @@ named (suc (suc k)) line = Refused (suc (suc k)) line
 
 -- 7 at place 0 for an area too short comes first; then the text
 abbrev pub heardAs : Bool → Verdict → Verdict
-heardAs long v = cond long v (Said.Refused 7 0)
+heardAs long v = cond long v (Said.Refused AREA-TOO-SHORT 0)
 
 pub record Settling (h : Plan) (held : List ℕ) (times : List ℤ) (levels chain : List ℕ) : Type 0 where
   pub plan : M.Plan

@@ -5,9 +5,11 @@ ghost use Rattle.meaning.specs.Outcome.{Promise, areas, longEnough};
 ghost use Rattle.ladder.specs.Memory.{InMemory};
 ghost use Rattle.solver.specs.Settled.{numberOf, placeOf, heardAs, Settling, Settled, Solves};
 use plan::Plan;
-use plan::Verdict;
-
-const MOST_EVENTS: usize = 64;
+use reader::Verdict;
+use scope::AREA_TOO_SHORT;
+use scope::MOST_EVENTS;
+use scope::NO_TIMETABLE;
+use scope::SOLVED;
 
 const ENTRIES: usize = MOST_EVENTS * MOST_EVENTS;
 
@@ -47,7 +49,7 @@ fn long_enough(times: &[i64], levels: &[u8], chain: &[u16]) -> bool
     if times.len() < MOST_EVENTS {
         return false;
     }
-    if levels.len() < plan::MOST_RECORDS {
+    if levels.len() < scope::MOST_RECORDS {
         return false;
     }
     MOST_EVENTS <= chain.len()
@@ -60,7 +62,7 @@ fn heard(long: bool, verdict: Verdict) -> Verdict
     if long {
         return verdict;
     }
-    Verdict::Refused(7, 0)
+    Verdict::Refused(AREA_TOO_SHORT, 0)
 }
 
 // The least times of a best timetable of the plan text, and its levels; or the chain of bounds that leave no timetable; or why the text or an area is refused.
@@ -69,8 +71,8 @@ pub fn solve(text: &[u8], times: &mut [i64], levels: &mut [u8], chain: &mut [u16
         (areas (now (times .exit)) (now (levels .exit)) (now (chain .exit))) r ⌝ }
 {
     let long = long_enough(times, levels, chain);
-    let mut held = [0u8; plan::MOST_LEVELS];
-    let answer = plan::read(text, &mut held);
+    let mut held = [0u8; scope::MOST_LEVELS];
+    let answer = reader::read(text, &mut held);
     let verdict = answer.verdict;
     match heard(long, verdict) {
         Verdict::Taken => settle(answer.plan, &held, times, levels, chain),
@@ -83,8 +85,8 @@ pub fn number_of(outcome: Outcome) -> u8
     ensures { λ r. ⌜ r ≡ numberOf outcome ⌝ }
 {
     match outcome {
-        Outcome::Solved(_) => 0,
-        Outcome::NoTimetable(_) => 1,
+        Outcome::Solved(_) => SOLVED,
+        Outcome::NoTimetable(_) => NO_TIMETABLE,
         Outcome::Refused(number, _) => number,
     }
 }

@@ -5,6 +5,4 @@ pub mod Runs
 pub mod Numbers
 pub mod Sames
 pub mod Forms
-pub mod Decimals
-pub mod Writes
 pub mod One

@@ -5,7 +5,7 @@ use libc::STDIN_FILENO;
 use libc::STDOUT_FILENO;
 
 // One byte more than a text may have: a longer one is refused for its length, whatever the rest of it says.
-const ENOUGH: usize = plan::MOST_BYTES + 1;
+const ENOUGH: usize = scope::MOST_BYTES + 1;
 
 // The outcome of a text goes to standard output. A disk may say only when the file is closed that it is full.
 fn print(text: &[u8]) {

@@ -12,6 +12,9 @@ mul-as-code c = search needs
 add-as-code : tie.Need-add-as-code
 add-as-code c = search needs
 
+add-as-code-2 : tie.Need-add-as-code-2
+add-as-code-2 c = search needs
+
 as-code-requires : tie.Need-as-code-requires
 as-code-requires c κs = search needs
 
@@ -19,4 +22,4 @@ returns : tie.Need-returns
 returns c = rw (c .as-code .ensures, c .before .as-event .ensures)
 
 pub horizon-lower-spec : {M : Type 1} → statement M
-horizon-lower-spec = tie.close (tie.spec as-event-requires mul-as-code add-as-code as-code-requires returns)
+horizon-lower-spec = tie.close (tie.spec as-event-requires mul-as-code add-as-code add-as-code-2 as-code-requires returns)

@@ -6,7 +6,7 @@ use native.Mathlib.Omega.{arith}
 use lib.ListN.{getD, replicate}
 use Rattle.eventset.specs.Sets.{bitsOf}
 use Rattle.chain.specs.Clash.{boundAt}
-use Rattle.chain.specs.Marks.{Events}
+use Rattle.chain.specs.Marks.{NOTES, Events}
 use Rattle.chain.proofs.Close.{marking, way-back, closed-path, start-inside, visiting, writing, found}
 use Rattle.chain.proofs.chain_of.Statement.{statement}
 use Rattle.chain.proofs.chain_of.Tie as tie
@@ -32,7 +32,7 @@ zeros (suc c) zero = refl
 zeros (suc c) (suc e) = zeros c e
 
 mark-requires : tie.Need-mark-requires
-mark-requires c κs = let s = c .before .before .before .before .before in marking _ _ _ _ _ (s .pre .0 .1) (omega arith) (λ e. zeros 128 e)
+mark-requires c κs = let s = c .before .before .before .before .before in marking _ _ _ _ _ (s .pre .0 .1) (omega arith) (λ e. zeros NOTES e)
 
 slice-aggregate-note : tie.Need-slice-aggregate-note
 slice-aggregate-note c = search needs

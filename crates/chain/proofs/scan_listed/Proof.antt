@@ -49,6 +49,7 @@ use Rattle.eventset.specs.declared.EventSet.{EventSet}
 use Rattle.eventset.specs.Sets.{bitsOf}
 use Rattle.eventset.proofs.EventSet as S
 use Rattle.eventset.proofs.EventSet.Laws as S′
+use Rattle.chain.specs.Clash.{MOST-BOUNDS}
 use Rattle.chain.specs.declared.Bound.{Bound}
 use Rattle.chain.specs.Marks.{Scanning, Scanned}
 use Rattle.chain.proofs.Bound as T
@@ -65,7 +66,7 @@ use Rattle.chain.proofs.scan_listed.Code as code
 
 abbrev stayed : Stays (listed.ended .signature .params) (listed.ended .kept)
 stayed = (
-  stay-none (λ _. Array T.the-row 640) yes,
+  stay-none (λ _. Array T.the-row MOST-BOUNDS) yes,
   (stay-none (λ _. usize) yes, (stay-none-slice (0 ∷ []) tt (plain (λ _. i32)) yes, (stay-none (λ _. usize) yes, (stay-none (λ _. S.the-row) yes, (gave-slice (1 ∷ []) tt (plain (λ _. u16)), tt))))),
 )
 
@@ -73,9 +74,9 @@ stayed = (
 abbrev Scans : {M : Type 1} (𝓤 : URA M) (H : Heap 𝓤) (A : Atoms 𝓤) (mem : Memory → SProp 𝓤) (run : Routine → Fun 𝓤) → Contract 𝓤
 Scans 𝓤 H A mem run = tripleOf 𝓤 H A scan.signature (scan.spec 𝓤 H A mem run)
 
--- the list's machine value u is a variable here, so that nothing computes the 640 entries
+-- the list's machine value u is a variable here, so that nothing computes the MOST-BOUNDS entries
 module _ {M : Type 1} (𝓤 : URA M) (H : Heap 𝓤) (A : Atoms 𝓤) (W : Given 𝓤 H A) (mem : Memory → SProp 𝓤) (run : Routine → Fun 𝓤) (κ₁ κ₂ : Lft) (q₁ q₂ : Share)
-    (bs : List Bound) (u : Val) (m : ℕ) (y : RefT (List ℤ)) (a : ℕ) (from : EventSet) (z : RefT (List ℕ)) (bs-is : Is (Array T.the-row 640) bs (u ∷ [])) (m-fits : m < 2 ^ 64) (a-fits : a < 2 ^ 64) (from-is : Is S.the-row from (S′.lowered from ∷ [])) where
+    (bs : List Bound) (u : Val) (m : ℕ) (y : RefT (List ℤ)) (a : ℕ) (from : EventSet) (z : RefT (List ℕ)) (bs-is : Is (Array T.the-row MOST-BOUNDS) bs (u ∷ [])) (m-fits : m < 2 ^ 64) (a-fits : a < 2 ^ 64) (from-is : Is S.the-row from (S′.lowered from ∷ [])) where
   abbrev κs : Lfts 2
   κs = (κ₁, (κ₂, tt))
 
@@ -94,7 +95,7 @@ module _ {M : Type 1} (𝓤 : URA M) (H : Heap 𝓤) (A : Atoms 𝓤) (W : Given
 
   -- what the list and the distances own; both are Copy
   abbrev Own : Fml
-  Own = Array T.the-row 640 .own bs (u ∷ [])
+  Own = Array T.the-row MOST-BOUNDS .own bs (u ∷ [])
 
   abbrev Far : Fml
   Far = ShrSlice (named 0) κ₁ i32 .own y (v ∷ [])
@@ -110,7 +111,7 @@ module _ {M : Type 1} (𝓤 : URA M) (H : Heap 𝓤) (A : Atoms 𝓤) (W : Given
   ref l δ = record { ptr = (l, 0); name = δ; now = bs }
 
   abbrev lent : ℕ → Val
-  lent l = sliceVal (l, 0) 640
+  lent l = sliceVal (l, 0) MOST-BOUNDS
 
   -- what `scan`'s triple binds outside, with the array lent for μ
   abbrev args : ℕ → (μ : ℕ) → GName → Args scan.signature (μ ∷ [], (κ₁, (κ₂, tt)))
@@ -139,15 +140,15 @@ module _ {M : Type 1} (𝓤 : URA M) (H : Heap 𝓤) (A : Atoms 𝓤) (W : Given
       owned ! usize (Is usize) (uint-makes 𝓤 H A W w64) m _ (refl, m-fits) $ fjoin ! $ move ! (1 ∷ 0 ∷ []) $ fjoin ! $ frame ! $ done !
 
   -- the elements of the array have room
-  room-of : length bs ≡ 640 → Room T.the-row (length bs)
+  room-of : length bs ≡ MOST-BOUNDS → Room T.the-row (length bs)
   room-of e = rw e (lit< tt, lit< tt)
 
   module _ (C : Calls 𝓤 H) (Λ : Loops 𝓤 H) (fm : FmC 𝓤 H (W .laws) C) (known : Triple 𝓤 (C #chain·scan) (Scans 𝓤 H A mem run)) where
     walk : Room i32 (length (y .now)) → Room u16 (length (z .now)) → Asks
         → ent 𝓤 (onEntry 𝓤 H A listed.signature κs (q₁, (q₂, tt)) (bs, (m, (y, (a, (from, (z, tt)))))) at) (WpFn 𝓤 H C Λ code.function (u ∷ vint w64 m ∷ v ∷ vint w64 a ∷ S′.lowered from ∷ t ∷ []) Post)
     walk room₁ room₂ asks =
-        let bs-typed = array-lawful 𝓤 H A W T.the-row (LL.lawful T.the-type T′.the-laws 𝓤 H A W) 640 .typed bs (u ∷ []) bs-is .0 in
-        qed W ((‵ (flft κ₁ q₁) ⊛ ‵ (flft κ₂ q₂) ⊛ ‵ ftrue) ∷ ‵ (owns (Array T.the-row 640 ∷ usize ∷ ShrSlice (named 0) κ₁ i32 ∷ usize ∷ S.the-row ∷ MutSlice (named 1) κ₂ u16 ∷ []) (bs, (m, (y, (a, (from, (z, tt)))))) at) ∷ []) ∵
+        let bs-typed = array-lawful 𝓤 H A W T.the-row (LL.lawful T.the-type T′.the-laws 𝓤 H A W) MOST-BOUNDS .typed bs (u ∷ []) bs-is .0 in
+        qed W ((‵ (flft κ₁ q₁) ⊛ ‵ (flft κ₂ q₂) ⊛ ‵ ftrue) ∷ ‵ (owns (Array T.the-row MOST-BOUNDS ∷ usize ∷ ShrSlice (named 0) κ₁ i32 ∷ usize ∷ S.the-row ∷ MutSlice (named 1) κ₂ u16 ∷ []) (bs, (m, (y, (a, (from, (z, tt)))))) at) ∷ []) ∵
         enter ! C Λ code.function (u ∷ vint w64 m ∷ v ∷ vint w64 a ∷ S′.lowered from ∷ t ∷ []) _ $
         alloc1 ! (λ l₀. alloc1 ! (λ l₁. alloc1 ! (λ l₂. alloc1 ! (λ l₃. alloc1 ! (λ l₄. alloc1 ! (λ l₅. alloc1 ! (λ l₆. alloc1 ! (λ l₇. alloc1 ! (λ l₈. alloc1 ! (λ l₉. alloc1 ! (λ l₁₀. alloc1 ! (λ l₁₁. alloc0 ! $ params1 ! $
         pass1 ! (init ! 20 refl bs-typed) $ pass1 ! (init ! 18 refl (tt, record { fits = m-fits })) $ pass1 ! (init ! 16 refl (tt, (tt, (record { fits = room₁ .0 }, tt)))) $
@@ -158,9 +159,9 @@ module _ {M : Type 1} (𝓤 : URA M) (H : Heap 𝓤) (A : Atoms 𝓤) (W : Given
         assigns ! (agg ! (and-then ! (load ! (place′ ! (stop !)) (look ! 6 refl)) (and-then ! (lit ! tt) (no-more !)))) (place′ ! (stop !)) (init ! 4 refl (tt, (tt, (record { fits = lit< tt }, tt)))) $
         assigns ! (addr ! (place′ ! (fld ! refl (hop ! (look-in ! 10 (sub ! 0 refl (whole !))) (stop !))))) (place′ ! (stop !)) (init ! 2 refl (tt, tt)) $
         assigns ! (agg ! (and-then ! (load ! (place′ ! (stop !)) (look ! 2 refl)) (and-then ! (load ! (place′ ! (fld ! refl (stop !))) (look-in ! 10 (sub ! 1 refl (whole !)))) (no-more !)))) (place′ ! (stop !)) (init ! 0 refl (tt, (tt, (record { fits = room₂ .0 }, tt)))) $
-        move ! (24 ∷ []) $ split ! $ move ! (26 ∷ []) $ fsplit ! $ use1 W (‵ Own ⊛ ‵ Own) (array-copy 𝓤 H A W T.the-row (LL.copy T.the-type T′.the-copy 𝓤 H A W) 640 .twice bs (u ∷ [])) $ split ! $
+        move ! (24 ∷ []) $ split ! $ move ! (26 ∷ []) $ fsplit ! $ use1 W (‵ Own ⊛ ‵ Own) (array-copy 𝓤 H A W T.the-row (LL.copy T.the-type T′.the-copy 𝓤 H A W) MOST-BOUNDS .twice bs (u ∷ [])) $ split ! $
         -- [the list; the list; the other parameters'; the distances' token; the notes'; _11; …]; its elements are lent, shared, for μ
-        move ! (13 ∷ 0 ∷ []) $ use2 W (‵ (arr-parts (shares T.the-row) (length bs) .part fullShare bs l₇ 0)) (taken 𝓤 H A W T.the-row tt 640 l₇ bs u) $
+        move ! (13 ∷ 0 ∷ []) $ use2 W (‵ (arr-parts (shares T.the-row) (length bs) .part fullShare bs l₇ 0)) (taken 𝓤 H A W T.the-row tt MOST-BOUNDS l₇ bs u) $
         lft-new ! tt (λ μ. move ! (1 ∷ []) $
         use1 W (later (some (λ (ε : GName). ‵ (ShrSlice (named 0) (μ ∷ []) T.the-row .own (ref l₇ ε) (sliceVal (l₇, 0) (length bs) ∷ [])) ⊛ ‵ (flent (μ ∷ []) (arr-parts (shares T.the-row) (length bs) .part fullShare bs l₇ 0))))) (lends-shr-slice 𝓤 H A W T.the-row (named 0) (μ ∷ []) fullShare bs l₇ 0 (room-of (asks .given .long))) $ await ! tt $ pick ! (λ ε. split ! $
         rewrite ! 0 (λ (n : ℕ). ‵ (ShrSlice (named 0) (μ ∷ []) T.the-row .own (ref l₇ ε) (sliceVal (l₇, 0) n ∷ []))) (asks .given .long) refl $
@@ -179,7 +180,7 @@ module _ {M : Type 1} (𝓤 : URA M) (H : Heap 𝓤) (A : Atoms 𝓤) (W : Given
         land ! (place′ ! (stop !)) (init ! 29 refl (LL.lawful S.the-type S′.the-laws 𝓤 H A W .typed r (w ∷ []) is .0)) $
         -- μ is ended, the elements come back, and the array is a local again
         move ! (1 ∷ []) $ split ! $ lft-end ! tt $ move ! (0 ∷ 7 ∷ []) $ lent-back ! tt $
-        use1 W (some (λ (n : Val). ‵ (fat fullShare (tyArray (lone (T.the-row .mir)) 640) l₇ 0 n))) (over 𝓤 H A W T.the-row tt 640 l₇ bs (asks .given .long)) $ pick ! (λ n.
+        use1 W (some (λ (n : Val). ‵ (fat fullShare (tyArray (lone (T.the-row .mir)) MOST-BOUNDS) l₇ 0 n))) (over 𝓤 H A W T.the-row tt MOST-BOUNDS l₇ bs (asks .given .long)) $ pick ! (λ n.
         -- [_7; the tokens; the result; the last notes; …; true; the distances; the list; _11; …]
         returns ! (look ! 29 refl) $ forget ! 0 refl $ forget ! 8 refl $ forget ! 10 refl $ forget ! 12 refl $ forget ! 14 refl $ forget ! 17 refl $ forget ! 19 refl $ forget ! 21 refl $ forget ! 23 refl $ forget ! 25 refl $ forget ! 27 refl $ forget ! 29 refl $
         move ! (29 ∷ 30 ∷ []) $ free1 ! $ move ! (27 ∷ 28 ∷ []) $ free1 ! $ move ! (25 ∷ 26 ∷ []) $ free1 ! $ move ! (23 ∷ 24 ∷ []) $ free1 ! $ move ! (21 ∷ 22 ∷ []) $ free1 ! $ move ! (19 ∷ 20 ∷ []) $ free1 ! $ move ! (17 ∷ 18 ∷ []) $ free1 ! $ move ! (0 ∷ 16 ∷ []) $ free1 ! $ move ! (13 ∷ 14 ∷ []) $ free1 ! $ move ! (11 ∷ 12 ∷ []) $ free1 ! $ move ! (9 ∷ 10 ∷ []) $ free1 ! $ move ! (7 ∷ 8 ∷ []) $ free1 ! $ free0 ! $
@@ -189,7 +190,7 @@ module _ {M : Type 1} (𝓤 : URA M) (H : Heap 𝓤) (A : Atoms 𝓤) (W : Given
   listed-walks : (C : Calls 𝓤 H) (Λ : Loops 𝓤 H) → FmC 𝓤 H (W .laws) C → Triple 𝓤 (C #chain·scan) (Scans 𝓤 H A mem run) → Walks 𝓤 H A listed.ended stayed (WpFn 𝓤 H C Λ code.function) (listed.clauses 𝓤 H A mem run)
   listed-walks C Λ fm known = walked 𝓤 H A listed.ended stayed (listed.clauses 𝓤 H A mem run) (WpFn 𝓤 H C Λ code.function)
       (λ κs. (array-vals (LL.vals T.the-type T′.the-laws), (uint-vals w64, (slice-vals, (uint-vals w64, (LL.vals S.the-type S′.the-laws, (slice-vals, tt)))))))
-      (λ κs. (array-tells T.the-row (LL.vals T.the-type T′.the-laws) (LL.tells T.the-type T′.the-laws) 640, (uint-tells w64, (shr-slice-tells (named 0) (κs .0) i32, (uint-tells w64, (LL.tells S.the-type S′.the-laws, (mut-slice-tells (named 1) (κs .1 .0) u16, tt)))))))
+      (λ κs. (array-tells T.the-row (LL.vals T.the-type T′.the-laws) (LL.tells T.the-type T′.the-laws) MOST-BOUNDS, (uint-tells w64, (shr-slice-tells (named 0) (κs .0) i32, (uint-tells w64, (LL.tells S.the-type S′.the-laws, (mut-slice-tells (named 1) (κs .1 .0) u16, tt)))))))
       (λ κs qs bounds a g are. needs 𝓤 _ _ (walk 𝓤 H A W mem run (κs .0) (κs .1 .0) (qs .0) (qs .1 .0) (a .0) _ (a .1 .0) (a .1 .1 .0) (a .1 .1 .1 .0) (a .1 .1 .1 .1 .0) (a .1 .1 .1 .1 .1 .0)
       (are .0) (are .1 .0 .1) (are .1 .1 .1 .0 .1) (are .1 .1 .1 .1 .0) C Λ fm known (are .1 .1 .0 .0 .1) (are .1 .1 .1 .1 .1 .0 .0 .1)))
 
@@ -197,7 +198,7 @@ listed-meets : {M : Type 1} (𝓤 : URA M) (H : Heap 𝓤) (A : Atoms 𝓤) → 
     → Meets 𝓤 H A listed.signature (WpFn 𝓤 H (𝓣 .C) (𝓣 .Λ) code.function) (listed.spec 𝓤 H A mem run)
 listed-meets 𝓤 H A W mem run 𝓣 known =
     walk-meets 𝓤 H A listed.ended stayed W
-    (goes-none 𝓤 H A W 2 (λ _. Array T.the-row 640) yes (λ κs x f. refl), (goes-none 𝓤 H A W 2 (λ _. usize) yes (λ κs x f. refl), (goes-none-slice 𝓤 H A W 2 (0 ∷ []) tt (plain (λ _. i32)) yes, (goes-none 𝓤 H A W 2 (λ _. usize) yes (λ κs x f. refl), (goes-none 𝓤 H A W 2 (λ _. S.the-row) yes (λ κs x f. refl), (goes-gave-slice 𝓤 H A W 2 1 tt (plain (λ _. u16)), tt))))))
+    (goes-none 𝓤 H A W 2 (λ _. Array T.the-row MOST-BOUNDS) yes (λ κs x f. refl), (goes-none 𝓤 H A W 2 (λ _. usize) yes (λ κs x f. refl), (goes-none-slice 𝓤 H A W 2 (0 ∷ []) tt (plain (λ _. i32)) yes, (goes-none 𝓤 H A W 2 (λ _. usize) yes (λ κs x f. refl), (goes-none 𝓤 H A W 2 (λ _. S.the-row) yes (λ κs x f. refl), (goes-gave-slice 𝓤 H A W 2 1 tt (plain (λ _. u16)), tt))))))
     (listed.clauses 𝓤 H A mem run) (WpFn 𝓤 H (𝓣 .C) (𝓣 .Λ) code.function) (WpFn-mono 𝓤 H (W .laws) 𝓣 code.function) (listed-walks 𝓤 H A W mem run (𝓣 .C) (𝓣 .Λ) (fmOf 𝓤 H (W .laws) 𝓣) known)
 
 pub scan-listed-spec : {M : Type 1} → stated.statement M

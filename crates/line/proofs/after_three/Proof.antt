@@ -7,11 +7,11 @@ use lib.ListN.{length, drop, length-drop}
 use lib.Seq.{slice, drop-drop}
 use Rattle.text.specs.Bytes.{until}
 use Rattle.meaning.specs.Reading.{TAB}
-use Rattle.plan.specs.Lines.{restOf, Fielded}
-use Rattle.plan.proofs.Walks.{rest-inside, rest-next}
+use Rattle.line.specs.Lines.{restOf, Fielded}
+use Rattle.line.proofs.Walks.{rest-inside, rest-next}
 use borrow.Author.Needs.{needs}
-use Rattle.plan.proofs.after_three.Statement.{statement}
-use Rattle.plan.proofs.after_three.Tie as tie
+use Rattle.line.proofs.after_three.Statement.{statement}
+use Rattle.line.proofs.after_three.Tie as tie
 
 -- the place p, from which the numbers but the first n are left
 record Left (s : List ℕ) (f e p n : ℕ) : Type 0 where

@@ -1,7 +1,7 @@
 -- `plan::has_fallen` meets its contract: by the flag.
 use borrow.Author.Needs.{needs}
-use Rattle.plan.proofs.has_fallen.Statement.{statement}
-use Rattle.plan.proofs.has_fallen.Tie as tie
+use Rattle.line.proofs.has_fallen.Statement.{statement}
+use Rattle.line.proofs.has_fallen.Tie as tie
 
 returns : tie.Need-returns
 returns c = search needs

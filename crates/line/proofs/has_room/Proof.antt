@@ -1,8 +1,8 @@
 -- `plan::has_room` meets its contract: the tests in turn.
 use borrow.Author.Tests.{lt-ltb, le-ltb, le-leb, lt-leb}
 use borrow.Author.Needs.{needs}
-use Rattle.plan.proofs.has_room.Statement.{statement}
-use Rattle.plan.proofs.has_room.Tie as tie
+use Rattle.line.proofs.has_room.Statement.{statement}
+use Rattle.line.proofs.has_room.Tie as tie
 
 returns : tie.Need-returns
 returns c = rw (le-ltb (c .before .args .count) 256 (c .if1 .taken))

@@ -5,8 +5,8 @@ use borrow.Author.Tests.{not-true, not-false}
 use mir.Facts.{toZ-ofZ}
 use Rattle.meaning.specs.Reading.{isEvent, isEnd}
 use borrow.Author.Needs.{needs}
-use Rattle.plan.proofs.in_range.Statement.{statement}
-use Rattle.plan.proofs.in_range.Tie as tie
+use Rattle.line.proofs.in_range.Statement.{statement}
+use Rattle.line.proofs.in_range.Tie as tie
 
 a-is : (c : tie.After-is-event) → isEvent (c .before .args .n) (c .before .args .a) ≡ c .is-event .result
 a-is c = sym (rw (toZ-ofZ (c .before .fits .a)) at (c .is-event .ensures))

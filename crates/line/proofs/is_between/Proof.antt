@@ -1,7 +1,7 @@
 -- `plan::is_between` meets its contract: each arm is what the first test leaves of the conjunction.
 use mir.Facts.{toZ-ofZ}
-use Rattle.plan.proofs.is_between.Statement.{statement}
-use Rattle.plan.proofs.is_between.Tie as tie
+use Rattle.line.proofs.is_between.Statement.{statement}
+use Rattle.line.proofs.is_between.Tie as tie
 
 returns : tie.Need-returns
 returns c = simp (toZ-ofZ (c .before .fits .hi), toZ-ofZ (c .before .fits .v), simp (toZ-ofZ (c .before .fits .lo), toZ-ofZ (c .before .fits .v)) at (c .if1 .taken))

@@ -3,8 +3,8 @@ use native.Mathlib.Omega.{arith}
 use mir.Syntax.{w32}
 use mir.Facts.{toZ-ofZ, toZ-pos}
 use borrow.Author.Needs.{needs}
-use Rattle.plan.proofs.is_event.Statement.{statement}
-use Rattle.plan.proofs.is_event.Tie as tie
+use Rattle.line.proofs.is_event.Statement.{statement}
+use Rattle.line.proofs.is_event.Tie as tie
 
 cast-result : tie.Need-cast-result
 cast-result c = search needs

@@ -10,8 +10,8 @@ use mir.Facts.{toZ-ofZ, toZ-pos}
 use borrow.Author.Needs.{needs}
 use Rattle.ticks.proofs.Ticks.{ticks}
 use Rattle.meaning.proofs.Tests.{both}
-use Rattle.plan.proofs.last_of.Statement.{statement}
-use Rattle.plan.proofs.last_of.Tie as tie
+use Rattle.line.proofs.last_of.Statement.{statement}
+use Rattle.line.proofs.last_of.Tie as tie
 
 fits : (c : tie.Start) → SFits w32 (c .args .lo +ℤ pos (c .args .n - 1))
 fits c =

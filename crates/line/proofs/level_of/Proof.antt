@@ -2,10 +2,10 @@
 use native.Mathlib.Omega.{arith}
 use mir.Facts.{toZ-ofZ}
 use Rattle.meaning.proofs.Tests.{count-to}
-use Rattle.plan.proofs.Tests.{sign}
+use Rattle.line.proofs.Tests.{sign}
 use borrow.Author.Needs.{needs}
-use Rattle.plan.proofs.level_of.Statement.{statement}
-use Rattle.plan.proofs.level_of.Tie as tie
+use Rattle.line.proofs.level_of.Statement.{statement}
+use Rattle.line.proofs.level_of.Tie as tie
 
 cast-result : tie.Need-cast-result
 cast-result c =

@@ -15,11 +15,11 @@ use mir.Syntax.{w32}
 use mir.Val.{SFits}
 use Rattle.text.specs.Answers.{numberAs}
 use Rattle.meaning.specs.Reading.{isLevel, allLevels}
-use Rattle.plan.specs.Lines.{restOf, Fielded}
-use Rattle.plan.proofs.Walks as W
+use Rattle.line.specs.Lines.{restOf, Fielded}
+use Rattle.line.proofs.Walks as W
 use Rattle.plan.proofs.Padded.{kept-above}
-use Rattle.plan.proofs.read_levels.Statement.{statement}
-use Rattle.plan.proofs.read_levels.Tie as tie
+use Rattle.line.proofs.read_levels.Statement.{statement}
+use Rattle.line.proofs.read_levels.Tie as tie
 
 record Read (text : List ℕ) (from end : ℕ) (levels₀ : List ℕ) (used : ℕ) (levels : List ℕ) (p k : ℕ) : Type 0 where
   fielded : Fielded text p end

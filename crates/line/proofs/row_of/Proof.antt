@@ -4,10 +4,10 @@ use native.Mathlib.Omega.{arith}
 use lib.IntN.{natAbs}
 use mir.Facts.{toZ-ofZ}
 use Rattle.meaning.proofs.Tests.{event-below, in-range}
-use Rattle.plan.proofs.Tests.{event-sign}
+use Rattle.line.proofs.Tests.{event-sign}
 use borrow.Author.Needs.{needs}
-use Rattle.plan.proofs.row_of.Statement.{statement}
-use Rattle.plan.proofs.row_of.Tie as tie
+use Rattle.line.proofs.row_of.Statement.{statement}
+use Rattle.line.proofs.row_of.Tie as tie
 
 a-is : (c : tie.After-size-of) → c .size-of .result ≡ natAbs (c .before .args .a)
 a-is c = rw (toZ-ofZ (c .before .fits .a)) at (c .size-of .ensures)

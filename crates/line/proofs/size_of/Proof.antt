@@ -1,8 +1,8 @@
 -- `plan::size_of` meets its contract: a number that fits and is not below zero is its size.
 use mir.Facts.{toZ-ofZ, fits-natAbs}
 use borrow.Author.Needs.{needs}
-use Rattle.plan.proofs.size_of.Statement.{statement}
-use Rattle.plan.proofs.size_of.Tie as tie
+use Rattle.line.proofs.size_of.Statement.{statement}
+use Rattle.line.proofs.size_of.Tie as tie
 
 cast-result : tie.Need-cast-result
 cast-result c = rw (toZ-ofZ (c .fits .v)) (c .pre, fits-natAbs tt (c .fits .v))

@@ -13,11 +13,11 @@ use mir.Val.{SFits}
 use mir.Facts.{toZ-ofZ}
 use Rattle.meaning.specs.Reading.{between}
 use Rattle.meaning.proofs.Tests.{count-to}
-use Rattle.plan.proofs.Tests.{sign}
-use Rattle.plan.proofs.Judges as J
+use Rattle.line.proofs.Tests.{sign}
+use Rattle.line.proofs.Judges as J
 use borrow.Author.Needs.{needs}
-use Rattle.plan.proofs.take_events.Statement.{statement}
-use Rattle.plan.proofs.take_events.Tie as tie
+use Rattle.line.proofs.take_events.Statement.{statement}
+use Rattle.line.proofs.take_events.Tie as tie
 
 fits-n : (c : tie.After-n) → SFits w32 (getD (c .before .before .before .args .t2 .first) 0 (pos 0))
 fits-n c = record { sfits = c .n .given }

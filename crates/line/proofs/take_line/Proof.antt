@@ -5,11 +5,11 @@ use lib.Seq.{slice}
 use Rattle.meaning.specs.Reading.{lineStep}
 use Rattle.text.specs.declared.Word.{Word}
 use Rattle.text.specs.declared.Word.the-variants.{Events, Rule, Wish}
-use Rattle.plan.specs.Lines.{restOf, wordForm, eventsFields, ruleFields, wishFields}
-use Rattle.plan.proofs.Judges as J
+use Rattle.line.specs.Lines.{restOf, wordForm, eventsFields, ruleFields, wishFields}
+use Rattle.line.proofs.Judges as J
 use borrow.Author.Needs.{needs}
-use Rattle.plan.proofs.take_line.Statement.{statement}
-use Rattle.plan.proofs.take_line.Tie as tie
+use Rattle.line.proofs.take_line.Statement.{statement}
+use Rattle.line.proofs.take_line.Tie as tie
 
 enum-told : tie.Need-enum-told
 enum-told c = search needs

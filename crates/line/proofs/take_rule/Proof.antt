@@ -11,10 +11,10 @@ use mir.Val.{SFits}
 use mir.Facts.{toZ-ofZ}
 use Rattle.meaning.specs.Plan as M
 use Rattle.meaning.specs.Reading.{inRange, sameEvent}
-use Rattle.plan.proofs.Judges as J
+use Rattle.line.proofs.Judges as J
 use borrow.Author.Needs.{needs}
-use Rattle.plan.proofs.take_rule.Statement.{statement}
-use Rattle.plan.proofs.take_rule.Tie as tie
+use Rattle.line.proofs.take_rule.Statement.{statement}
+use Rattle.line.proofs.take_rule.Tie as tie
 
 fits-a : (c : tie.After-a) → SFits w32 (getD (c .before .before .before .before .args .t2 .first) 0 (pos 0))
 fits-a c = record { sfits = c .a .given }

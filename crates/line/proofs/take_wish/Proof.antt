@@ -15,13 +15,13 @@ use mir.Facts.{toZ-ofZ}
 use Rattle.meaning.specs.Plan as M
 use Rattle.meaning.specs.Peak.{peaked}
 use Rattle.meaning.specs.Reading.{isEnd, inRange, sameEvent, allLevels, lastOf}
-use Rattle.plan.specs.Lines.{restOf, Counts}
-use Rattle.plan.proofs.Tests.{all-three}
-use Rattle.plan.proofs.Wishes.{stored-slice, wish-row}
-use Rattle.plan.proofs.Judges as J
+use Rattle.line.specs.Lines.{restOf, Counts}
+use Rattle.line.proofs.Tests.{all-three}
+use Rattle.line.proofs.Wishes.{stored-slice, wish-row}
+use Rattle.line.proofs.Judges as J
 use borrow.Author.Needs.{needs}
-use Rattle.plan.proofs.take_wish.Statement.{statement}
-use Rattle.plan.proofs.take_wish.Tie as tie
+use Rattle.line.proofs.take_wish.Statement.{statement}
+use Rattle.line.proofs.take_wish.Tie as tie
 
 -- how many levels
 many : (c : tie.After-shared-slice-known) → length (drop 3 (restOf (slice (c .before .args .first) (c .before .args .end) (c .before .args .text .now)))) ≡ (c .before .args .t2 .count - 3)

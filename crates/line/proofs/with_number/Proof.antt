@@ -6,10 +6,10 @@ use native.Mathlib.Omega.{arith}
 use lib.IntN.{pos}
 use lib.ListN.{length-set, length-append, List·getD-append}
 use mir.Facts.{toZ-ofZ}
 use Rattle.plan.proofs.Padded.{one-more}
 use borrow.Author.Needs.{needs}
-use Rattle.plan.proofs.with_number.Statement.{statement}
-use Rattle.plan.proofs.with_number.Tie as tie
+use Rattle.line.proofs.with_number.Statement.{statement}
+use Rattle.line.proofs.with_number.Tie as tie
 
 add-g : tie.Need-add-g
 add-g c = search needs

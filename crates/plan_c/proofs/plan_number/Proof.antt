@@ -1,6 +1,6 @@
 -- `plan_c::plan_number` meets its contract: by the verdict.
 use mathlib.Core.Path.{sym, ap}
-use Rattle.plan.specs.Held.{number}
+use Rattle.reader.specs.Heard.{number}
 use borrow.Author.Needs.{needs}
 use Rattle.plan_c.proofs.plan_number.Statement.{statement}
 use Rattle.plan_c.proofs.plan_number.Tie as tie

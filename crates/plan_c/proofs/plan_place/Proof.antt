@@ -1,6 +1,6 @@
 -- `plan_c::plan_place` meets its contract: by the verdict.
 use mathlib.Core.Path.{sym, ap}
-use Rattle.plan.specs.Held.{place}
+use Rattle.reader.specs.Heard.{place}
 use borrow.Author.Needs.{needs}
 use Rattle.plan_c.proofs.plan_place.Statement.{statement}
 use Rattle.plan_c.proofs.plan_place.Tie as tie

@@ -1,4 +1,4 @@
--- `text::put_digits` meets its contract: the digits of a tenth of the number, then its last one. The number falls at each call.
+-- `print::put_digits` meets its contract: the digits of a tenth of the number, then its last one. The number falls at each call.
 use mathlib.Core.Path.{_≡_, sym, ap, _∙_}
 use mathlib.Core.List.{List, [], _∷_, _++_}
 use Prim.Native.Nat.{ℕ, _+_, _/_, _%_, _<_, _≤_}
@@ -7,16 +7,16 @@ use borrow.Author.Needs.{needs}
 use lib.ListN.{length, length-append}
 use borrow.Fn.Kinds.{In}
 use borrow.Fn.PlainCycle.{Measures, is, falls, and}
-use Rattle.text.specs.Written.{decimal, Wrote}
-use Rattle.text.proofs.Decimals.{decimal-one, decimal-more}
-use Rattle.text.proofs.Writes.{wrote-then, wrote-as, wrote-long}
-use Rattle.text.proofs.put_digits.Reads as put-digits
-use Rattle.text.proofs.put_digits.Kinds as put-digits-kinds
-use Rattle.text.proofs.+put_digits.Lts-put_digits as lts
-use Rattle.text.proofs.digit.Reads as digit
-use Rattle.text.proofs.put_byte.Reads as put-byte
-use Rattle.text.proofs.+put_digits.{statement}
-use Rattle.text.proofs.+put_digits.Tie.{close}
+use Rattle.print.specs.Written.{decimal, Wrote}
+use Rattle.print.proofs.Decimals.{decimal-one, decimal-more}
+use Rattle.print.proofs.Writes.{wrote-then, wrote-as, wrote-long}
+use Rattle.print.proofs.put_digits.Reads as put-digits
+use Rattle.print.proofs.put_digits.Kinds as put-digits-kinds
+use Rattle.print.proofs.+put_digits.Lts-put_digits as lts
+use Rattle.print.proofs.digit.Reads as digit
+use Rattle.print.proofs.put_byte.Reads as put-byte
+use Rattle.print.proofs.+put_digits.{statement}
+use Rattle.print.proofs.+put_digits.Tie.{close}
 
 abbrev μ-put-digits : Measures 1 put-digits-kinds.ps ℕ
 μ-put-digits κs a = a .1 .1 .0

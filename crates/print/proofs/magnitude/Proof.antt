@@ -1,4 +1,4 @@
--- `text::magnitude` meets its contract: one more than the number's negative less one, which fits also for the least number.
+-- `print::magnitude` meets its contract: one more than the number's negative less one, which fits also for the least number.
 use mathlib.Core.Path.{_≡_, refl}
 use Prim.Native.Nat.{suc, _+_, _-_}
 use native.Mathlib.Omega.{arith}
@@ -8,9 +8,9 @@ use mir.Facts.{toZ-ofZ}
 use mir.Syntax.{w64}
 use mir.Val.{SFits}
 use Rattle.ticks.proofs.Ticks.{ticks, sum, neg}
-use Rattle.text.proofs.Decimals.{whole-fits}
-use Rattle.text.proofs.magnitude.Statement.{statement}
-use Rattle.text.proofs.magnitude.Tie as tie
+use Rattle.print.proofs.Decimals.{whole-fits}
+use Rattle.print.proofs.magnitude.Statement.{statement}
+use Rattle.print.proofs.magnitude.Tie as tie
 
 -- the number and one
 next-fits : (z : ℤ) → z <ℤ pos 0 → SFits w64 z → SFits w64 (z +ℤ pos 1)

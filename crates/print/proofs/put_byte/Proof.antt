@@ -1,8 +1,8 @@
--- `text::put_byte` meets its contract: one store.
+-- `print::put_byte` meets its contract: one store.
 use borrow.Author.Needs.{needs}
-use Rattle.text.proofs.Writes.{wrote-byte}
-use Rattle.text.proofs.put_byte.Statement.{statement}
-use Rattle.text.proofs.put_byte.Tie as tie
+use Rattle.print.proofs.Writes.{wrote-byte}
+use Rattle.print.proofs.put_byte.Statement.{statement}
+use Rattle.print.proofs.put_byte.Tie as tie
 
 slice-write-out : tie.Need-slice-write-out
 slice-write-out c = search needs

@@ -1,10 +1,10 @@
--- `text::put_field` meets its contract: the tab, then the number.
+-- `print::put_field` meets its contract: the tab, then the number.
 use native.Mathlib.Omega.{arith}
 use borrow.Author.Needs.{needs}
 use mir.Facts.{toZ-ofZ}
-use Rattle.text.proofs.Writes.{wrote-then, wrote-long}
-use Rattle.text.proofs.put_field.Statement.{statement}
-use Rattle.text.proofs.put_field.Tie as tie
+use Rattle.print.proofs.Writes.{wrote-then, wrote-long}
+use Rattle.print.proofs.put_field.Statement.{statement}
+use Rattle.print.proofs.put_field.Tie as tie
 
 put-byte-requires : tie.Need-put-byte-requires
 put-byte-requires c κs = search needs

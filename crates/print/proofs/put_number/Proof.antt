@@ -1,4 +1,4 @@
--- `text::put_number` meets its contract: a minus and the digits of the magnitude, or the digits.
+-- `print::put_number` meets its contract: a minus and the digits of the magnitude, or the digits.
 use mathlib.Core.Path.{_≡_, sym, ap, _∙_}
 use mathlib.Core.Bool.{true, false}
 use mathlib.Core.List.{List, [], _∷_}
@@ -10,11 +10,11 @@ use lib.Signed.{ltZ, _<ℤ_}
 use lib.ListN.{length}
 use mir.Facts.{toZ-ofZ}
 use Rattle.ticks.proofs.Ticks.{ticks}
-use Rattle.text.specs.Written.{decimal, decimalZ, Wrote}
-use Rattle.text.proofs.Decimals.{decimal-below, decimal-above, above-zero, whole-fits}
-use Rattle.text.proofs.Writes.{wrote-then, wrote-as, wrote-long}
-use Rattle.text.proofs.put_number.Statement.{statement}
-use Rattle.text.proofs.put_number.Tie as tie
+use Rattle.print.specs.Written.{decimal, decimalZ, Wrote}
+use Rattle.print.proofs.Decimals.{decimal-below, decimal-above, above-zero, whole-fits}
+use Rattle.print.proofs.Writes.{wrote-then, wrote-as, wrote-long}
+use Rattle.print.proofs.put_number.Statement.{statement}
+use Rattle.print.proofs.put_number.Tie as tie
 
 -- the two ways
 below : (c : tie.Then1) → ltZ (c .before .before .args .z) (pos 0) ≡ true

@@ -1,4 +1,4 @@
--- `text::put_word` meets its contract: the first i bytes of the word are written.
+-- `print::put_word` meets its contract: the first i bytes of the word are written.
 use mathlib.Core.Path.{_≡_}
 use mathlib.Core.List.{List, []}
 use Prim.Native.Nat.{ℕ, _+_, _-_, _≤_, _<_}
@@ -6,10 +6,10 @@ use native.Mathlib.Nat.{add-zero}
 use native.Mathlib.Omega.{arith}
 use borrow.Author.Needs.{needs}
 use lib.ListN.{length, take}
-use Rattle.text.specs.Written.{Wrote}
-use Rattle.text.proofs.Writes.{wrote-none, wrote-next, wrote-all, wrote-long}
-use Rattle.text.proofs.put_word.Statement.{statement}
-use Rattle.text.proofs.put_word.Tie as tie
+use Rattle.print.specs.Written.{Wrote}
+use Rattle.print.proofs.Writes.{wrote-none, wrote-next, wrote-all, wrote-long}
+use Rattle.print.proofs.put_word.Statement.{statement}
+use Rattle.print.proofs.put_word.Tie as tie
 
 abbrev Inv-loop : tie.InvT-loop
 Inv-loop out₀ at word i₀ i-end out i = (i ≤ length word) × (i-end ≡ length word) × Wrote out₀ out at (at + i) (take i word) × (length out ≡ length out₀)

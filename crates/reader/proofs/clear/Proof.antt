@@ -3,9 +3,9 @@ use mathlib.Core.Path.{_≡_, refl, _∙_}
 use Prim.Native.Nat.{ℕ, _-_, _≤_, _<_}
 use native.Mathlib.Omega.{arith}
 use lib.ListN.{length, getD, length-set}
 use Rattle.plan.proofs.Padded.{kept-above, zero-more}
-use Rattle.plan.proofs.clear.Statement.{statement}
-use Rattle.plan.proofs.clear.Tie as tie
+use Rattle.reader.proofs.clear.Statement.{statement}
+use Rattle.reader.proofs.clear.Tie as tie
 
 abbrev Inv-loop : tie.InvT-loop
 Inv-loop levels₀ i₀ levels i =

@@ -1,12 +1,13 @@
 -- `plan::read` meets its contract: each way out by what its last calls answer.
 use mathlib.Core.Path.{refl, sym, _∙_}
 use Rattle.meaning.specs.Reading.{plan, refused}
-use Rattle.plan.proofs.Steps.{lines}
-use Rattle.plan.specs.Held.{planIn}
-use Rattle.plan.proofs.Answers.{text-long, text-short, taken-plan, refused-is, held-from, cleared-again, read-short, read-as}
+use Rattle.meaning.specs.Numbers.{TOO-MANY}
+use Rattle.reader.proofs.Steps.{lines}
+use Rattle.reader.specs.Heard.{planIn}
+use Rattle.reader.proofs.Answers.{text-long, text-short, taken-plan, refused-is, held-from, cleared-again, read-short, read-as}
 use borrow.Author.Needs.{needs}
-use Rattle.plan.proofs.read.Statement.{statement}
-use Rattle.plan.proofs.read.Tie as tie
+use Rattle.reader.proofs.read.Statement.{statement}
+use Rattle.reader.proofs.read.Tie as tie
 
 refusal-requires : tie.Need-refusal-requires
 refusal-requires c κs = search needs
@@ -24,7 +25,7 @@ same-length : tie.Need-same-length
 same-length c = search needs
 
 returns-2 : tie.Need-returns-2
-returns-2 c = read-as (c .before .before .before .before .before .before .before .before .before .args .text .now) (c .before .before .before .before .before .before .before .before .before .args .levels .now) (c .before .before .before .before .clear .last .0) (c .refusal2 .result) (refused 3 0) (c .before .before .before .before .before .before .if1 .left) (text-long (c .before .before .before .before .before .before .before .before .before .args .text .now) (c .before .if2 .taken)) (c .refusal2 .ensures .0) (c .refusal2 .ensures .1) (c .before .before .before .before .clear .ensures)
+returns-2 c = read-as (c .before .before .before .before .before .before .before .before .before .args .text .now) (c .before .before .before .before .before .before .before .before .before .args .levels .now) (c .before .before .before .before .clear .last .0) (c .refusal2 .result) (refused TOO-MANY 0) (c .before .before .before .before .before .before .if1 .left) (text-long (c .before .before .before .before .before .before .before .before .before .args .text .now) (c .before .if2 .taken)) (c .refusal2 .ensures .0) (c .refusal2 .ensures .1) (c .before .before .before .before .clear .ensures)
 
 read-lines-requires : tie.Need-read-lines-requires
 read-lines-requires c κs = search needs

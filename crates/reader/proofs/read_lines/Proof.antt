@@ -15,17 +15,18 @@ use mir.Val.{SFits}
 use Rattle.text.specs.Bytes.{after}
 use Rattle.text.specs.Answers.{numberAs}
 use Rattle.meaning.specs.Reading.{TAB, numberOf, numbers, refused}
-use Rattle.plan.specs.declared.Fields.{Fields}
+use Rattle.meaning.specs.Numbers.{WRONG-FORM}
+use Rattle.line.specs.declared.Fields.{Fields}
 use Rattle.plan.specs.declared.Record.{Record}
-use Rattle.plan.specs.declared.Line.the-variants.{Fault, Head, Entry}
-use Rattle.plan.specs.Lines.{Numbers, restOf, Fielded, Faulted, Headed, Entered, wordForm}
+use Rattle.line.specs.declared.Line.the-variants.{Fault, Head, Entry}
+use Rattle.line.specs.Lines.{Numbers, restOf, Fielded, Faulted, Headed, Entered, wordForm}
 use Rattle.plan.proofs.Padded.{all-same}
-use Rattle.plan.proofs.Judges.{says-of}
-use Rattle.plan.proofs.Walks as W
-use Rattle.plan.proofs.Steps as S
-use Rattle.plan.proofs.Steps.{Walking, lines}
-use Rattle.plan.proofs.read_lines.Statement.{statement}
-use Rattle.plan.proofs.read_lines.Tie as tie
+use Rattle.line.proofs.Judges.{says-of}
+use Rattle.line.proofs.Walks as W
+use Rattle.reader.proofs.Steps as S
+use Rattle.reader.proofs.Steps.{Walking, lines}
+use Rattle.reader.proofs.read_lines.Statement.{statement}
+use Rattle.reader.proofs.read_lines.Tie as tie
 
 -- in a line, before the field at p: the numbers seen, with those that are left, are all
 record Scanning (text : List ℕ) (first end fault : ℕ) (f : Fields) (p : ℕ) : Type 0 where
@@ -111,10 +112,10 @@ entered : (c : tie.After-known-told4 Inv-loop μ-loop Inv-lines μ-lines) → Wa
 entered c = S.entered (c .before .before .before .before .before .before .before .before .before .before .before .before .before .before .before .before .before .before .args .text .now) (c .before .before .before .before .before .before .before .before .before .before .before .before .before .before .before .before .before .before .args .levels .now) (c .before .before .before .before .before .before .before .before .before .before .before .before .before .before .lines .levels) (c .before .before .before .before .before .before .before .before .before .before .before .before .before .before .lines .plan) (c .before .before .before .before .before .before .before .before .before .before .before .before .before .before .lines .line) (c .before .before .before .before .before .before .before .before .before .before .before .before .before .before .lines .at) (c .before .before .before .before .before .before .before .before .before .before .before .before .before .before .lines .inv .1) (c .before .before .before .before .before .before .before .before .before .before .before .before .find .result) (c .before .before .before .before .before .before .before .before .before .before .before .before .before .lines-test .taken) (c .before .before .before .before .before .before .before .before .before .before .before .before .find .ensures) (inner (c .before .before .before .before .before .before .before .before .before .before .before)) (c .before .before .before .before .before .before .before .before .before .before .find2 .result) (c .before .before .before .before .before .before .before .before .before .before .find2 .ensures) (c .before .before .before .before .before .before .before .before .before .read-word .result) (c .before .before .before .before .before .before .before .before .before .read-word .ensures) (restOf (slice (c .before .before .before .before .before .before .before .before .before .before .find2 .result) (c .before .before .before .before .before .before .before .before .before .before .before .before .find .result) (c .before .before .before .before .before .before .before .before .before .before .before .before .before .before .before .before .before .before .args .text .now))) (fielded (c .before .before .before .before .before .before .before) .all) (c .before .before .before .before .before .take-line .last .1 .1 .1 .1 .1 .1 .1 .1 .1 .0) (c .before .r .given .0 .0) (c .before .before .before .before .before .before .before .before .before .before .before .before .before .before .before .before .before .before .pre .1) (entry c)
 
 -- the three ways out by the label
-unended : (c : tie.Then1 Inv-loop μ-loop Inv-lines μ-lines) → lines (c .before .before .before .before .before .before .before .args .text .now) ≡ refused 2 (c .before .before .before .lines .line)
+unended : (c : tie.Then1 Inv-loop μ-loop Inv-lines μ-lines) → lines (c .before .before .before .before .before .before .before .args .text .now) ≡ refused WRONG-FORM (c .before .before .before .lines .line)
 unended c = S.unended (c .before .before .before .before .before .before .before .args .text .now) (c .before .before .before .before .before .before .before .args .levels .now) (c .before .before .before .lines .levels) (c .before .before .before .lines .plan) (c .before .before .before .lines .line) (c .before .before .before .lines .at) (c .before .before .before .lines .inv .1) (c .before .find .result) (c .before .before .lines-test .taken) (c .before .find .ensures) (c .if1 .taken)
 
-unread : (c : tie.After-enum-told Inv-loop μ-loop Inv-lines μ-lines) → lines (c .before .before .before .before .before .before .before .before .before .before .before .before .before .before .before .args .text .now) ≡ refused 2 (c .before .before .before .before .before .before .before .before .before .before .before .lines .line)
+unread : (c : tie.After-enum-told Inv-loop μ-loop Inv-lines μ-lines) → lines (c .before .before .before .before .before .before .before .before .before .before .before .before .before .before .before .args .text .now) ≡ refused WRONG-FORM (c .before .before .before .before .before .before .before .before .before .before .before .lines .line)
 unread c =
     let l = c .before .before .before .before .before .loop in
     let d : numberOf (slice (l .p + 1) (c .before .before .before .find3 .result) (c .before .before .before .before .before .before .before .before .before .before .before .before .before .before .before .args .text .now)) ≡ none = sym (c .before .before .read-number .ensures .0) ∙ ap numberAs (c .enum-told .given .1) in

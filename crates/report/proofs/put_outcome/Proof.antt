@@ -2,7 +2,7 @@
 use native.Mathlib.Omega.{arith}
 use borrow.Author.Needs.{needs}
 use Rattle.meaning.specs.Reading.{read}
-use Rattle.plan.specs.Held.{planIn}
+use Rattle.reader.specs.Heard.{planIn}
 use Rattle.report.specs.Left.{Timed}
 use Rattle.report.proofs.Outcomes.{told, left-solved, left-none, left-refused}
 use Rattle.report.proofs.put_outcome.Statement.{statement}

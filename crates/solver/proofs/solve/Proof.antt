@@ -7,9 +7,9 @@ use Rattle.meaning.specs.Plan.{MOST-LEVELS-TOGETHER}
 use Rattle.meaning.specs.Reading.{read}
 use Rattle.meaning.specs.Outcome.{areas, longEnough}
 use Rattle.meaning.proofs.Demands.{long-areas}
-use Rattle.plan.specs.declared.Verdict.the-variants.{Taken}
-use Rattle.plan.specs.Held.{planIn}
-use Rattle.plan.proofs.Answers.{read-refused, read-taken}
+use Rattle.reader.specs.declared.Verdict.the-variants.{Taken}
+use Rattle.reader.specs.Heard.{planIn}
+use Rattle.reader.proofs.Answers.{read-refused, read-taken}
 use Rattle.solver.proofs.Settles.{heard-taken, heard-refused, settled-solves, read-memory}
 use Rattle.solver.proofs.solve.Statement.{statement}
 use Rattle.solver.proofs.solve.Tie as tie

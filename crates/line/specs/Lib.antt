@@ -1,0 +1,2 @@
+-- What one line of a text gives.
+pub mod Lines

@@ -1,0 +1,4 @@
+-- Laws of bytes that are put: digits, bytes one after the other; and that two results of one promise are equal.
+pub mod Decimals
+pub mod Writes
+pub mod One

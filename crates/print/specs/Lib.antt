@@ -1,0 +1,2 @@
+-- What a lent area holds after bytes were put into it.
+pub mod Written

@@ -1,0 +1,4 @@
+-- The walk over the lines, the answer from what its parts answer, and that any two answers are equal.
+pub mod Steps
+pub mod Answers
+pub mod Same

@@ -1,0 +1,160 @@
+// The reader of a plan text: the walk over its lines up to the first fault.
+ghost use mathlib.Core.Path.{_≡_};
+ghost use Prim.Native.Nat.{_≤_};
+ghost use lib.ListN.{length};
+ghost use Rattle.meaning.specs.Plan.{MOST-LEVELS-TOGETHER, MOST-BYTES};
+ghost use Rattle.meaning.specs.Reading.{empty};
+ghost use Rattle.plan.specs.Held.{Holds, LevelsHeld};
+ghost use Rattle.reader.specs.declared.Verdict.the-variants.{Refused};
+ghost use Rattle.reader.specs.Heard.{Read, Walked};
+use line::Fields;
+use line::Line;
+use plan::Plan;
+use scope::AREA_TOO_SHORT;
+use scope::MOST_BYTES;
+use scope::MOST_LEVELS;
+use scope::TOO_MANY;
+use scope::WRONG_FORM;
+use text::Number;
+
+const TAB: u8 = 9;
+
+const LINE_FEED: u8 = 10;
+
+pub enum Verdict {
+    Taken,
+    Refused(u8, usize),
+}
+
+pub struct Answer {
+    pub verdict: Verdict,
+    pub plan: Plan,
+}
+
+// The area of levels as for a plan without wishes.
+fn clear(levels: &mut [u8])
+    requires { ⌜ MOST-LEVELS-TOGETHER ≤ length (now levels) ⌝ }
+    ensures { λ r. ⌜ LevelsHeld empty (now (levels .entry)) (now (levels .exit)) ⌝ }
+{
+    let mut i = 0;
+    while i < MOST_LEVELS {
+        levels[i] = 0;
+        i += 1;
+    }
+}
+
+// The lines of a text from the top, and in each line its fields, up to the first fault.
+fn read_lines(text: &[u8], levels: &mut [u8]) -> Answer
+    requires { ⌜ (length (now text) ≤ MOST-BYTES) × (MOST-LEVELS-TOGETHER ≤ length (now levels)) × LevelsHeld empty (now levels) (now levels) ⌝ }
+    ensures { λ r. ⌜ Walked (now (text .entry)) (now (levels .entry)) (now (levels .exit)) r ⌝ }
+{
+    let mut plan = plan::empty_plan();
+    let len = text.len();
+    let mut fault: u8 = 0;
+    let mut line: usize = 1;
+    let mut at: usize = 0;
+    'lines: while at < len {
+        let end = text::find(text, at, len, LINE_FEED);
+        if end == len {
+            fault = WRONG_FORM;
+            break 'lines;
+        }
+        let first = text::find(text, at, end, TAB);
+        let word = text::read_word(text, at, first);
+        let mut f = Fields {
+            count: 0,
+            first: [0; 4],
+        };
+        let mut p = first;
+        while p < end {
+            let next = text::find(text, p + 1, end, TAB);
+            match text::read_number(text, p + 1, next) {
+                Number::Value(v) => {
+                    f = line::with_number(f, v);
+                }
+                Number::Stopped(_) => {
+                    fault = WRONG_FORM;
+                    break 'lines;
+                }
+            }
+            p = next;
+        }
+        match line::take_line(
+            line,
+            word,
+            f,
+            plan.events,
+            plan.count,
+            plan.used,
+            text,
+            first,
+            end,
+            levels,
+        ) {
+            Line::Fault(k) => {
+                fault = k;
+                break 'lines;
+            }
+            Line::Head(n, h) => {
+                plan.events = n;
+                plan.horizon = h;
+            }
+            Line::Entry(r) => {
+                let k = plan.count;
+                plan.records[k] = r;
+                plan.count = k + 1;
+                plan.used = plan.used + (r.count as usize);
+            }
+        }
+        line += 1;
+        at = end + 1;
+    }
+    if fault == 0 {
+        if line == 1 {
+            return Answer {
+                verdict: Verdict::Refused(WRONG_FORM, 1),
+                plan: plan,
+            };
+        }
+        return Answer {
+            verdict: Verdict::Taken,
+            plan: plan,
+        };
+    }
+    Answer {
+        verdict: Verdict::Refused(fault, line),
+        plan: plan,
+    }
+}
+
+// A refusal, which leaves no plan.
+fn refusal(k: u8, line: usize) -> Answer
+    ensures { λ r. ⌜ (r .verdict ≡ Refused k line) × Holds empty (r .plan) ⌝ }
+{
+    Answer {
+        verdict: Verdict::Refused(k, line),
+        plan: plan::empty_plan(),
+    }
+}
+
+// What a text says: a plan, whose levels stand in the lent area, or the number and the line of its first fault.
+pub fn read(text: &[u8], levels: &mut [u8]) -> Answer
+    ensures { λ r. ⌜ Read (now (text .entry)) (now (levels .entry)) (now (levels .exit)) r ⌝ }
+{
+    if levels.len() < MOST_LEVELS {
+        return refusal(AREA_TOO_SHORT, 0);
+    }
+    clear(levels);
+    if MOST_BYTES < text.len() {
+        return refusal(TOO_MANY, 0);
+    }
+    let answer = read_lines(text, levels);
+    let verdict = answer.verdict;
+    match verdict {
+        Verdict::Taken => answer,
+        Verdict::Refused(k, line) => {
+            clear(levels);
+            refusal(k, line)
+        }
+    }
+}
