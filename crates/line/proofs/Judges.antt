@@ -15,7 +15,7 @@ use Rattle.meaning.specs.Reading.{item, Form, eventsLine, ruleLine, wishLine, w
 use Rattle.meaning.specs.Numbers.{WRONG-FORM, TOO-MANY, OUT-OF-RANGE, SAME-EVENT, NOT-PEAKED}
 use Rattle.text.specs.declared.Word.{Word}
 use Rattle.line.specs.declared.Fields.{Fields}
-use Rattle.line.specs.declared.Line.{Line}
+use Rattle.line.specs.declared.Effect.{Effect}
 use Rattle.line.specs.Lines.{eventsFields, ruleFields, wishFields, wordForm, Numbers, Counts, Faulted, Says}
 
 -- a fault of a function that does not touch the area
@@ -40,11 +40,11 @@ step-wrong line p = go (eqb line 1)
     go false = refl
 
 -- what the answer says, once its case is known
-pub says-of : (line : ℕ) (f : Form) (n count used : ℕ) (before after : List ℕ) (r x : Line) → r ≡ x → Says line f n count used before after r → Says line f n count used before after x
+pub says-of : (line : ℕ) (f : Form) (n count used : ℕ) (before after : List ℕ) (r x : Effect) → r ≡ x → Says line f n count used before after r → Says line f n count used before after x
 says-of line f n count used before after r x e s = rw (← e) s
 
 -- what a line with the word w gives, from the form that its fields have
-pub by-word : (line : ℕ) (f : Form) (w x : Word) (vs : List ℤ) (n count used : ℕ) (before after : List ℕ) (r : Line) → w ≡ x → f ≡ wordForm x vs
+pub by-word : (line : ℕ) (f : Form) (w x : Word) (vs : List ℤ) (n count used : ℕ) (before after : List ℕ) (r : Effect) → w ≡ x → f ≡ wordForm x vs
     → Says line f n count used before after r → Says line (wordForm w vs) n count used before after r
 by-word line f w x vs n count used before after r e q s = rw (e, ← q) s
 

@@ -2,23 +2,28 @@
 use mathlib.Core.Path.{_≡_}
 use mathlib.Core.Bool.{Bool, true, cond}
 use mathlib.Core.Option.{Option, none, some}
-use mathlib.Core.List.{List, [], map}
+use mathlib.Core.List.{List, [], _∷_, map}
 use Prim.Native.Nat.{ℕ, _+_, _≤_, _<_}
 use lib.Dec.{eqb, leb}
-use lib.ListN.{length, getD, drop}
+use lib.ListN.{length, getD, set, drop}
 use lib.Seq.{slice, sets}
 use lib.IntN.{ℤ, pos, natAbs}
 use Rattle.meaning.specs.Plan as M
 use Rattle.meaning.specs.Plan.{MOST-EVENTS, MOST-RECORDS, MOST-LEVELS-TOGETHER}
-use Rattle.meaning.specs.Reading.{TAB, item, numbers, allLevels, Form, eventsLine, ruleLine, wishLine, wrong, eventsForm, ruleForm, wishForm, taken, fault, lineStep, withRecord, levelsTogether}
-use Rattle.text.specs.Bytes.{after}
+use Rattle.meaning.specs.Reading.{TAB, item, numberOf, numbers, allLevels, Form, eventsLine, ruleLine, wishLine, wrong, eventsForm, ruleForm, wishForm, taken, fault, lineStep, withRecord, levelsTogether}
+use Rattle.text.specs.Bytes.{until, after}
+use Rattle.text.specs.Words.{wordOf}
 use Rattle.text.specs.declared.Word.{Word}
 use Rattle.text.specs.declared.Word.the-variants.{Events, Rule, Wish, Other}
 use Rattle.plan.specs.Held.{levelsIn, rowOf}
 use Rattle.plan.specs.declared.Record.{Record}
 use Rattle.line.specs.declared.Fields.{Fields}
 use Rattle.line.specs.declared.Line.{Line}
-use Rattle.line.specs.declared.Line.the-variants.{Fault, Head, Entry}
+use Rattle.line.specs.declared.SoFar.{SoFar}
+use Rattle.line.specs.declared.Field.{Field}
+use Rattle.line.specs.declared.Field.the-variants.{Number, Wrong}
+use Rattle.line.specs.declared.Effect.{Effect}
+use Rattle.line.specs.declared.Effect.the-variants.{Fault, Head, Entry}
 
 -- ---- the numbers of a line
 
@@ -106,7 +111,62 @@ pub record Entered (line : ℕ) (f : Form) (n count used : ℕ) (before after : 
   pub stored : after ≡ sets before used (levelsIn entry)
 
 -- what the line gives, by the answer's case
-abbrev pub Says : ℕ → Form → ℕ → ℕ → ℕ → List ℕ → List ℕ → Line → Type 0
+abbrev pub Says : ℕ → Form → ℕ → ℕ → ℕ → List ℕ → List ℕ → Effect → Type 0
 Says line f n count used before after (Fault k) = Faulted line f n count used before after k
 Says line f n count used before after (Head m h) = Headed line f before after m h
 Says line f n count used before after (Entry r) = Entered line f n count used before after r
+
+-- ---- a line as a struct
+
+-- the line from `at` up to `end`, none of its numbers read
+abbrev pub begun : List ℕ → ℕ → ℕ → ℕ → Line
+begun text number at end = record {
+  number = number;
+  word = wordOf (slice at (at + until TAB (slice at end text)) text);
+  first = at + until TAB (slice at end text);
+  «end» = end;
+  count = 0;
+  fields = pos 0 ∷ pos 0 ∷ pos 0 ∷ pos 0 ∷ [];
+}
+
+-- one number more: the first four are kept
+abbrev pub withNumber : Line → ℤ → Line
+withNumber l v = record {
+  number = l .number;
+  word = l .word;
+  first = l .first;
+  «end» = l .«end»;
+  count = l .count + 1;
+  fields = set (l .fields) (l .count) v;
+}
+
+-- the place where the field behind the tab at p ends
+abbrev pub fieldEnd : List ℕ → ℕ → ℕ → ℕ
+fieldEnd text p end = p + 1 + until TAB (slice (p + 1) end text)
+
+-- the field behind the tab at p
+abbrev pub FieldRead : List ℕ → ℕ → ℕ → Field → Type 0
+FieldRead text p end (Number v next) = (next ≡ fieldEnd text p end) × (numberOf (slice (p + 1) (fieldEnd text p end) text) ≡ some v)
+FieldRead text p end Wrong = numberOf (slice (p + 1) (fieldEnd text p end) text) ≡ none
+
+-- the struct has the numbers vs
+pub record Numbered (vs : List ℤ) (l : Line) : Type 0 where
+  pub count : l .count ≡ length vs
+  pub size : length (l .fields) ≡ 4
+  pub at : (k : ℕ) → k < 4 → getD (l .fields) k (pos 0) ≡ item vs k
+
+-- all fields of the line are read, and they are numbers
+pub record Whole (text : List ℕ) (l : Line) : Type 0 where
+  pub fielded : Fielded text (l .first) (l .«end»)
+  pub numbered : Numbered (restOf (slice (l .first) (l .«end») text)) l
+
+pub record Room (s : SoFar) : Type 0 where
+  pub events : s .events ≤ MOST-EVENTS
+  pub levels : s .levels ≤ MOST-LEVELS-TOGETHER
+
+-- the form of the line
+abbrev pub formIn : List ℕ → Line → Form
+formIn text l = wordForm (l .word) (restOf (slice (l .first) (l .«end») text))
+
+abbrev pub Gives : List ℕ → Line → SoFar → List ℕ → List ℕ → Effect → Type 0
+Gives text l s before after r = Says (l .number) (formIn text l) (s .events) (s .records) (s .levels) before after r

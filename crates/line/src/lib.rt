@@ -8,10 +8,10 @@ ghost use lib.Seq.{slice};
 ghost use lib.Dec.{T, ltb, leb};
 ghost use lib.IntN.{ℤ, pos, natAbs, _+ℤ_};
 ghost use lib.Signed.{nonNeg};
-ghost use Rattle.meaning.specs.Plan.{MOST-EVENTS, MOST-RECORDS, MOST-LEVELS, MOST-LEVELS-TOGETHER};
+ghost use Rattle.meaning.specs.Plan.{MOST-EVENTS, MOST-RECORDS, MOST-LEVELS, MOST-LEVELS-TOGETHER, MOST-BYTES};
 ghost use Rattle.meaning.specs.Peak.{peaked};
 ghost use Rattle.meaning.specs.Reading.{between, isEvent, isEnd, isLevel, inRange};
-ghost use Rattle.line.specs.Lines.{Numbers, restOf, Fielded, LevelsRead, AfterThree, Says, eventsFields, ruleFields, wishFields, wordForm, asRow};
+ghost use Rattle.line.specs.Lines.{Numbers, restOf, Fielded, LevelsRead, AfterThree, Says, eventsFields, ruleFields, wishFields, wordForm, asRow, begun, withNumber, FieldRead, Whole, Room, Gives};
 use plan::Record;
 use scope::MOST_END;
 use scope::MOST_HORIZON;
@@ -121,24 +121,77 @@ fn is_peaked(levels: &[u8], at: usize, end: usize) -> bool
 }
 
 // How many numbers a line has, and the first four of them.
-pub struct Fields {
+struct Fields {
+    count: usize,
+    first: [i32; 4],
+}
+
+// A line as far as it is read: its number, its word, the place where its word ends, the place where it ends, how many numbers were read, and the
+// first four of them.
+pub struct Line {
+    pub number: usize,
+    pub word: Word,
+    pub first: usize,
+    pub end: usize,
     pub count: usize,
-    pub first: [i32; 4],
+    pub fields: [i32; 4],
+}
+
+// What the tests of a line need of the plan read so far: its events, its records, and the levels that these have together.
+pub struct SoFar {
+    pub events: usize,
+    pub records: usize,
+    pub levels: usize,
+}
+
+// The field behind a tab: its number and the place where it ends, or that it is no number.
+pub enum Field {
+    Number(i32, usize),
+    Wrong,
+}
+
+// The line from `at` up to `end`, none of its numbers read.
+pub fn begin(text: &[u8], number: usize, at: usize, end: usize) -> Line
+    requires { ⌜ (at ≤ end) × (end ≤ length (now text)) ⌝ }
+    ensures { λ r. ⌜ r ≡ begun (now (text .entry)) number at end ⌝ }
+{
+    let first = text::find(text, at, end, TAB);
+    let word = text::read_word(text, at, first);
+    Line {
+        number: number,
+        word: word,
+        first: first,
+        end: end,
+        count: 0,
+        fields: [0; 4],
+    }
+}
+
+// The field behind the tab at p, in a line that ends at `end`.
+pub fn field_after(text: &[u8], p: usize, end: usize) -> Field
+    requires { ⌜ (p < end) × (end ≤ length (now text)) ⌝ }
+    ensures { λ r. ⌜ FieldRead (now (text .entry)) p end r ⌝ }
+{
+    let next = text::find(text, p + 1, end, TAB);
+    match text::read_number(text, p + 1, next) {
+        Number::Value(v) => Field::Number(v, next),
+        Number::Stopped(_) => Field::Wrong,
+    }
 }
 
 // One number more.
-pub fn with_number(f: Fields, v: i32) -> Fields
-    requires { ⌜ (f .count < 100000) × (length (f .first) ≡ 4) ⌝ }
-    ensures { λ r. ⌜ ((vs : List ℤ) → Numbers vs f → Numbers (vs ++ (v ∷ [])) r) ⌝ }
+pub fn with_number(line: Line, v: i32) -> Line
+    requires { ⌜ (line .count < MOST-BYTES) × (length (line .fields) ≡ 4) ⌝ }
+    ensures { λ r. ⌜ r ≡ withNumber line v ⌝ }
 {
-    let mut g = f;
-    let k = g.count;
-    g.count = k + 1;
+    let mut more = line;
+    let k = more.count;
+    more.count = k + 1;
     if 4 <= k {
-        return g;
+        return more;
     }
-    g.first[k] = v;
-    g
+    more.fields[k] = v;
+    more
 }
 
 fn level_of(v: i32) -> u8
@@ -185,7 +238,7 @@ fn after_three(text: &[u8], first: usize, end: usize) -> usize
 }
 
 // What a line gives: a fault, the number of events and the horizon, or one record more.
-pub enum Line {
+pub enum Effect {
     Fault(u8),
     Head(usize, u32),
     Entry(Record),
@@ -207,57 +260,57 @@ fn row_of(n: usize, a: i32, b: i32, first: usize, count: usize, lo: i32, hi: i32
 }
 
 // The line `events`.
-fn take_events(line: usize, f: Fields) -> Line
+fn take_events(line: usize, f: Fields) -> Effect
     requires { ⌜ length (f .first) ≡ 4 ⌝ }
     ensures { λ r. ⌜ ((n count used : ℕ) (levels : List ℕ) → Says line (eventsFields f) n count used levels levels r) ⌝ }
 {
     if line != 1 {
-        return Line::Fault(WRONG_FORM);
+        return Effect::Fault(WRONG_FORM);
     }
     let c = f.count;
     if c != 2 {
-        return Line::Fault(WRONG_FORM);
+        return Effect::Fault(WRONG_FORM);
     }
     let n = f.first[0];
     let h = f.first[1];
     if !is_between(1, MOST_EVENTS, n) {
-        return Line::Fault(OUT_OF_RANGE);
+        return Effect::Fault(OUT_OF_RANGE);
     }
     if !is_between(0, MOST_HORIZON, h) {
-        return Line::Fault(OUT_OF_RANGE);
+        return Effect::Fault(OUT_OF_RANGE);
     }
-    Line::Head(size_of(n), size_of(h) as u32)
+    Effect::Head(size_of(n), size_of(h) as u32)
 }
 
 // A line `rule`, after `count` records with `used` levels together.
-fn take_rule(line: usize, f: Fields, n: usize, count: usize, used: usize) -> Line
+fn take_rule(line: usize, f: Fields, n: usize, count: usize, used: usize) -> Effect
     requires { ⌜ (length (f .first) ≡ 4) × (n ≤ MOST-EVENTS) × (used ≤ MOST-LEVELS-TOGETHER) ⌝ }
     ensures { λ r. ⌜ ((levels : List ℕ) → Says line (ruleFields f) n count used levels levels r) ⌝ }
 {
     if line == 1 {
-        return Line::Fault(WRONG_FORM);
+        return Effect::Fault(WRONG_FORM);
     }
     let c = f.count;
     if c != 4 {
-        return Line::Fault(WRONG_FORM);
+        return Effect::Fault(WRONG_FORM);
     }
     if MOST_RECORDS <= count {
-        return Line::Fault(TOO_MANY);
+        return Effect::Fault(TOO_MANY);
     }
     let a = f.first[0];
     let b = f.first[1];
     let lo = f.first[2];
     let hi = f.first[3];
     if !in_range(n, a, b, lo, hi) {
-        return Line::Fault(OUT_OF_RANGE);
+        return Effect::Fault(OUT_OF_RANGE);
     }
     if !ticks::at_most(lo, hi) {
-        return Line::Fault(OUT_OF_RANGE);
+        return Effect::Fault(OUT_OF_RANGE);
     }
     if ticks::equal(a, b) {
-        return Line::Fault(SAME_EVENT);
+        return Effect::Fault(SAME_EVENT);
     }
-    Line::Entry(row_of(n, a, b, used, 0, lo, hi))
+    Effect::Entry(row_of(n, a, b, used, 0, lo, hi))
 }
 
 // One wish more, with m levels, is within the limits of their numbers.
@@ -285,46 +338,46 @@ fn take_wish(
     first: usize,
     end: usize,
     levels: &mut [u8],
-) -> Line
+) -> Effect
     requires { ⌜ Fielded (now text) first end × Numbers (restOf (slice first end (now text))) f × (n ≤ MOST-EVENTS) × (used ≤ MOST-LEVELS-TOGETHER) × (MOST-LEVELS-TOGETHER ≤ length (now levels)) ⌝ }
     ensures { λ r. ⌜ Says line (wishFields f (restOf (slice first end (now (text .entry))))) n count used (now (levels .entry)) (now (levels .exit)) r ⌝ }
 {
     if line == 1 {
-        return Line::Fault(WRONG_FORM);
+        return Effect::Fault(WRONG_FORM);
     }
     let c = f.count;
     if c < 4 {
-        return Line::Fault(WRONG_FORM);
+        return Effect::Fault(WRONG_FORM);
     }
     let m = c - 3;
     if !has_room(count, used, m) {
-        return Line::Fault(TOO_MANY);
+        return Effect::Fault(TOO_MANY);
     }
     let a = f.first[0];
     let b = f.first[1];
     let lo = f.first[2];
     if !is_end(lo) {
-        return Line::Fault(OUT_OF_RANGE);
+        return Effect::Fault(OUT_OF_RANGE);
     }
     let hi = last_of(lo, m);
     if !in_range(n, a, b, lo, hi) {
-        return Line::Fault(OUT_OF_RANGE);
+        return Effect::Fault(OUT_OF_RANGE);
     }
     let p = after_three(text, first, end);
     if !read_levels(text, p, end, levels, used) {
-        return Line::Fault(OUT_OF_RANGE);
+        return Effect::Fault(OUT_OF_RANGE);
     }
     if ticks::equal(a, b) {
-        return Line::Fault(SAME_EVENT);
+        return Effect::Fault(SAME_EVENT);
     }
     if !is_peaked(levels, used, used + m) {
-        return Line::Fault(NOT_PEAKED);
+        return Effect::Fault(NOT_PEAKED);
     }
-    Line::Entry(row_of(n, a, b, used, m, lo, hi))
+    Effect::Entry(row_of(n, a, b, used, m, lo, hi))
 }
 
 // A line whose fields but the first are numbers.
-pub fn take_line(
+fn take_line(
     line: usize,
     word: Word,
     f: Fields,
@@ -335,7 +388,7 @@ pub fn take_line(
     first: usize,
     end: usize,
     levels: &mut [u8],
-) -> Line
+) -> Effect
     requires { ⌜ Fielded (now text) first end × Numbers (restOf (slice first end (now text))) f × (n ≤ MOST-EVENTS) × (used ≤ MOST-LEVELS-TOGETHER) × (MOST-LEVELS-TOGETHER ≤ length (now levels)) ⌝ }
     ensures { λ r. ⌜ Says line (wordForm word (restOf (slice first end (now (text .entry))))) n count used (now (levels .entry)) (now (levels .exit)) r ⌝ }
 {
@@ -343,6 +396,31 @@ pub fn take_line(
         Word::Events => take_events(line, f),
         Word::Rule => take_rule(line, f, n, count, used),
         Word::Wish => take_wish(line, f, n, count, used, text, first, end, levels),
-        Word::Other => Line::Fault(WRONG_FORM),
+        Word::Other => Effect::Fault(WRONG_FORM),
     }
+}
+
+// What a line gives whose numbers are all read: the tests of section 3 in their order. The levels of a wish are stored behind those of the others.
+pub fn take(text: &[u8], line: Line, plan: SoFar, levels: &mut [u8]) -> Effect
+    requires { ⌜ Whole (now text) line × Room plan × (MOST-LEVELS-TOGETHER ≤ length (now levels)) ⌝ }
+    ensures { λ r. ⌜ Gives (now (text .entry)) line plan (now (levels .entry)) (now (levels .exit)) r ⌝ }
+{
+    let word = line.word;
+    let four = line.fields;
+    let f = Fields {
+        count: line.count,
+        first: four,
+    };
+    take_line(
+        line.number,
+        word,
+        f,
+        plan.events,
+        plan.records,
+        plan.levels,
+        text,
+        line.first,
+        line.end,
+        levels,
+    )
 }
