@@ -3,13 +3,13 @@ use mathlib.Core.Path.{_≡_}
 use mathlib.Core.Bool.{cond}
 use mathlib.Core.List.{List}
 use Prim.Native.Nat.{ℕ, _≤_, _<_}
-use lib.Dec.{leb}
+use lib.Dec.{eqb, leb}
 use lib.ListN.{length, getD}
 use Rattle.meaning.specs.Plan as M
 use Rattle.meaning.specs.Plan.{MOST-LEVELS-TOGETHER}
 use Rattle.meaning.specs.Reading as R
 use Rattle.meaning.specs.Reading.{Reading, LINE-FEED, split, readPieces, plan, empty}
-use Rattle.meaning.specs.Numbers.{AREA-TOO-SHORT}
+use Rattle.meaning.specs.Numbers.{WRONG-FORM, AREA-TOO-SHORT}
 use Rattle.plan.specs.Held.{Holds, LevelsHeld}
 use Rattle.reader.specs.declared.Answer.{Answer}
 use Rattle.reader.specs.declared.Verdict.{Verdict}
@@ -18,6 +18,10 @@ use Rattle.reader.specs.declared.Verdict.the-variants.{Taken, Refused}
 -- 7 at place 0 for an area too short comes first; then the text
 abbrev pub heard : List ℕ → List ℕ → Reading
 heard area text = cond (leb MOST-LEVELS-TOGETHER (length area)) (R.read text) (R.refused AREA-TOO-SHORT 0)
+
+-- the verdict at the end of the walk: `fault` is 0 where there was none; a text of no line has its fault in line 1
+abbrev pub verdictAt : ℕ → ℕ → Verdict
+verdictAt fault line = cond (eqb fault 0) (cond (eqb line 1) (Refused WRONG-FORM 1) Taken) (Refused fault line)
 
 abbrev pub verdictOf : Reading → Verdict
 verdictOf (R.plan p) = Taken
