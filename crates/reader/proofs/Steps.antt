@@ -1,5 +1,5 @@
--- The walk over the lines of a text, a line at a time: what holds before a line (`Walking`) holds after it, or the walk is left with the text's reading (`Left`).
--- In a line, a field at a time: the numbers seen and those that are left are all its numbers (`Scanning`).
+-- The walk over the lines of a text, a line at a time: what holds before a line (`Walking`) holds after it, or the walk is left with
+-- the text's reading (`Left`). In a line, a field at a time: the numbers seen and those that are left are all its numbers (`Scanning`).
 use mathlib.Core.Path.{_≡_, refl, sym, ap, _∙_}
 use mathlib.Core.Bool.{Bool, true, false}
 use mathlib.Core.Option.{none, some}
@@ -20,7 +20,7 @@ use Rattle.meaning.specs.Numbers.{WRONG-FORM}
 use Rattle.plan.specs.declared.Plan.{Plan}
 use Rattle.plan.specs.declared.Record.{Record}
 use Rattle.plan.specs.Held.{levelsIn, Holds, LevelsHeld}
-use Rattle.plan.proofs.Growth.{holds-more, held-more}
+use Rattle.plan.proofs.Growth.{withRow, holds-more, held-more}
 use Rattle.plan.proofs.Padded.{all-same, one-more}
 use Rattle.line.specs.declared.Line.{Line}
 use Rattle.line.specs.declared.SoFar.{SoFar}
@@ -127,10 +127,6 @@ module _ {text before levels : List ℕ} {h : Plan} {number at : ℕ} (w : Walki
 
 abbrev pub withHead : Plan → ℕ → ℕ → Plan
 withHead h m z = record { events = m; horizon = z; count = h .count; used = h .used; records = h .records }
-
--- one record more, with n levels
-abbrev pub withRow : Plan → Record → ℕ → Plan
-withRow h r n = record { events = h .events; horizon = h .horizon; count = h .count + 1; used = h .used + n; records = set (h .records) (h .count) r }
 
 -- ---- in a line
 
