@@ -52,10 +52,3 @@ pub sets-above : (N : ℕ) (vs xs ys : List ℕ) (n : ℕ) → n + length vs ≤
     → (k : ℕ) → N ≤ k → getD (sets xs n vs) k 0 ≡ getD ys k 0
 sets-above N [] xs ys n h at k p = at k p
 sets-above N (v ∷ vs) xs ys n h at k p = sets-above N vs (set xs n v) ys (suc n) (omega arith) (kept-above N xs ys n v (omega arith) at) k p
-
-pub zero-more : (xs : List ℕ) (n : ℕ) → n < length xs → ((k : ℕ) → k < n → getD xs k 0 ≡ 0) → (k : ℕ) → k < n + 1 → getD (set xs n 0) k 0 ≡ 0
-zero-more xs n h at k p = here (eqb k n) refl
-  where
-    here : (b : Bool) → eqb k n ≡ b → getD (set xs n 0) k 0 ≡ 0
-    here true q = let kn : k ≡ n = eqb-true k n q in rw kn (getD-set-same xs n 0 0 h)
-    here false q = getD-set-other xs n k 0 0 (eqb-false k n q) ∙ at k (omega (arith, eqb-false k n q))

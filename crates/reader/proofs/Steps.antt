@@ -2,7 +2,7 @@
 -- the text's reading (`Left`). In a line, a field at a time: the numbers seen and those that are left are all its numbers (`Scanning`).
 use mathlib.Core.Path.{_≡_, refl, sym, ap, _∙_}
 use mathlib.Core.Bool.{Bool, true, false}
-use mathlib.Core.Option.{none, some}
+use mathlib.Core.Option.{some}
 use mathlib.Core.List.{List, [], _∷_, _++_}
 use Prim.Native.Nat.{ℕ, _+_, _≤_, _<_}
 use native.Mathlib.Omega.{arith}
@@ -26,7 +26,7 @@ use Rattle.line.specs.declared.Line.{Line}
 use Rattle.line.specs.declared.SoFar.{SoFar}
 use Rattle.line.specs.declared.Field.the-variants.{Number, Wrong}
 use Rattle.line.specs.declared.Effect.the-variants.{Fault, Head, Entry}
-use Rattle.line.specs.Lines.{begun, withNumber, fieldEnd, FieldRead, Numbered, Whole, Room, Counts, Gives, formIn, wordForm, Faulted, Headed, Entered}
+use Rattle.line.specs.Lines.{begun, withNumber, fieldEnd, FieldRead, Numbered, Whole, Room, Counts, Gives, formIn}
 use Rattle.line.proofs.Judges.{step-wrong}
 use Rattle.line.proofs.Walks as W
 use Rattle.reader.specs.declared.Verdict.the-variants.{Taken, Refused}

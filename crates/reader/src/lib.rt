@@ -6,7 +6,7 @@ ghost use Rattle.meaning.specs.Plan.{MOST-LEVELS-TOGETHER, MOST-BYTES};
 ghost use Rattle.meaning.specs.Reading.{empty};
 ghost use Rattle.plan.specs.Held.{Holds, LevelsHeld};
 ghost use Rattle.reader.specs.declared.Verdict.the-variants.{Refused};
-ghost use Rattle.reader.specs.Heard.{Read, Walked, verdictAt};
+ghost use Rattle.reader.specs.Heard.{Cleared, Read, Walked, verdictAt};
 use line::Effect;
 use line::Field;
 use line::SoFar;
@@ -29,13 +29,13 @@ pub struct Answer {
     pub plan: Plan,
 }
 
-// The area of levels as for a plan without wishes.
-fn clear(levels: &mut [u8])
-    requires { ⌜ MOST-LEVELS-TOGETHER ≤ length (now levels) ⌝ }
-    ensures { λ r. ⌜ LevelsHeld empty (now (levels .entry)) (now (levels .exit)) ⌝ }
+// The first `count` places of the area are 0.
+fn clear(levels: &mut [u8], count: usize)
+    requires { ⌜ count ≤ length (now levels) ⌝ }
+    ensures { λ r. ⌜ Cleared count (now (levels .entry)) (now (levels .exit)) ⌝ }
 {
     let mut i = 0;
-    while i < MOST_LEVELS {
+    while i < count {
         levels[i] = 0;
         i += 1;
     }
@@ -131,7 +131,7 @@ pub fn read(text: &[u8], levels: &mut [u8]) -> Answer
     if levels.len() < MOST_LEVELS {
         return refusal(AREA_TOO_SHORT, 0);
     }
-    clear(levels);
+    clear(levels, MOST_LEVELS);
     if MOST_BYTES < text.len() {
         return refusal(TOO_MANY, 0);
     }
@@ -140,7 +140,7 @@ pub fn read(text: &[u8], levels: &mut [u8]) -> Answer
     match verdict {
         Verdict::Taken => answer,
         Verdict::Refused(k, line) => {
-            clear(levels);
+            clear(levels, MOST_LEVELS);
             refusal(k, line)
         }
     }
