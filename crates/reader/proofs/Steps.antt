@@ -2,7 +2,7 @@
 -- the text's reading (`Left`). In a line, a field at a time: the numbers seen and those that are left are all its numbers (`Scanning`).
 use mathlib.Core.Path.{_≡_, refl, sym, ap, _∙_}
 use mathlib.Core.Bool.{Bool, true, false}
-use mathlib.Core.Option.{some}
+use mathlib.Core.Option.{Option, some}
 use mathlib.Core.List.{List, [], _∷_, _++_}
 use Prim.Native.Nat.{ℕ, _+_, _≤_, _<_}
 use native.Mathlib.Omega.{arith}
@@ -15,7 +15,8 @@ use Rattle.text.specs.Bytes.{until, after}
 use Rattle.text.proofs.Cuts.{cut-in}
 use Rattle.meaning.specs.Plan as M
 use Rattle.meaning.specs.Plan.{MOST-BYTES, MOST-LEVELS-TOGETHER}
-use Rattle.meaning.specs.Reading.{TAB, LINE-FEED, item, numbers, split, readPieces, afterStep, lineStep, formOf, Reading, plan, refused, empty, withRecord}
+use Rattle.meaning.specs.Reading.{TAB, LINE-FEED, item, numbers, split, Form, formOf, Step, lineStep, withRecord}
+use Rattle.meaning.specs.Reading.{Reading, plan, refused, empty, readPieces, afterStep}
 use Rattle.meaning.specs.Numbers.{WRONG-FORM}
 use Rattle.plan.specs.declared.Plan.{Plan}
 use Rattle.plan.specs.declared.Record.{Record}
@@ -151,6 +152,20 @@ module _ {text before levels : List ℕ} {h : Plan} {number at k : ℕ} (w : Wal
     inner = omega (arith, ends, more, cut-in LINE-FEED text at (length text) (omega arith) (omega arith));
   }
 
+-- where its word ends, its numbers, and its form
+abbrev wordEnd : List ℕ → ℕ → ℕ → ℕ
+wordEnd text at k = at + until TAB (slice at k text)
+
+abbrev numbersIn : List ℕ → ℕ → ℕ → Option (List ℤ)
+numbersIn text at k = numbers (after TAB (slice (wordEnd text at k) k text))
+
+abbrev formAt : List ℕ → ℕ → ℕ → Form
+formAt text at k = formOf (slice at (wordEnd text at k) text) (numbersIn text at k)
+
+-- the reading of the text, from what line `number`, up to k, does
+abbrev onward : List ℕ → ℕ → ℕ → Step → Reading
+onward text number k = afterStep number (λ p. readPieces (split LINE-FEED (slice (k + 1) (length text) text)) (number + 1) p)
+
 -- a line with other numbers
 abbrev readOn : Line → ℕ → List ℤ → Line
 readOn l n fs = record { number = l .number; word = l .word; first = l .first; «end» = l .«end»; count = n; fields = fs }
@@ -194,11 +209,11 @@ module _ {text before levels : List ℕ} {h : Plan} {number at k : ℕ} (o : Cur
   pub step-in : (number ≤ length text) × (at ≤ k) × (k < length text)
   step-in = (omega (arith, w .far, line-in .0, o .inner), line-in .0, o .inner)
 
-  word-in : at + until TAB (slice at k text) ≤ k
+  word-in : wordEnd text at k ≤ k
   word-in = omega (arith, cut-in TAB text at k (line-in .0) (line-in .1))
 
   -- none of its fields is read
-  pub scan-begin : Scanning text (begun text number at k) (begun text number at k) (begun text number at k .first)
+  pub scan-begin : Scanning text (begun text number at k) (begun text number at k) (wordEnd text at k)
   scan-begin = record {
     kept = refl;
     inside = word-in;
@@ -208,12 +223,10 @@ module _ {text before levels : List ℕ} {h : Plan} {number at k : ℕ} (o : Cur
     rest = W.scan-start _;
   }
 
-  -- what the text's reading is after this line
-  stepped : lines text ≡ afterStep number (λ r. readPieces (split LINE-FEED (slice (k + 1) (length text) text)) (number + 1) r)
-      (lineStep number (w .p) (formOf (slice at (begun text number at k .first) text) (numbers (after TAB (slice (begun text number at k .first) k text)))))
+  stepped : lines text ≡ onward text number k (lineStep number (w .p) (formAt text at k))
   stepped =
       sym (w .rest) ∙ W.pieces-step text at k number (w .p) (o .on) (o .ends) (o .inner)
-      ∙ rw (W.form-cut text at k (begun text number at k .first) (line-in .0) (line-in .1) refl)
+      ∙ rw (W.form-cut text at k (wordEnd text at k) (line-in .0) (line-in .1) refl)
 
   module _ {row : Line} {p : ℕ} (s : Scanning text (begun text number at k) row p) where
     -- ---- a field
@@ -243,7 +256,7 @@ module _ {text before levels : List ℕ} {h : Plan} {number at k : ℕ} (o : Cur
 
     -- ---- all fields are read
     module _ (all : k ≤ p) where
-      all-seen : numbers (after TAB (slice (begun text number at k .first) k text)) ≡ some (s .seen)
+      all-seen : numbersIn text at k ≡ some (s .seen)
       all-seen = W.scan-end text p k (omega (arith, s .inside)) (s .seen) _ (s .rest)
 
       pub whole : Whole text row
@@ -255,11 +268,10 @@ module _ {text before levels : List ℕ} {h : Plan} {number at k : ℕ} (o : Cur
       same-number : row .number ≡ number
       same-number = ap (λ (l : Line). l .number) (s .kept)
 
-      form : formIn text row ≡ formOf (slice at (begun text number at k .first) text) (numbers (after TAB (slice (begun text number at k .first) k text)))
-      form = rw (s .kept, all-seen) (sym (W.word-form (slice at (begun text number at k .first) text) (s .seen)))
+      form : formIn text row ≡ formAt text at k
+      form = rw (s .kept, all-seen) (sym (W.word-form (slice at (wordEnd text at k) text) (s .seen)))
 
-      judged : lines text ≡ afterStep number (λ r. readPieces (split LINE-FEED (slice (k + 1) (length text) text)) (number + 1) r)
-          (lineStep (row .number) (w .p) (formIn text row))
+      judged : lines text ≡ onward text number k (lineStep (row .number) (w .p) (formIn text row))
       judged = stepped ∙ rw (same-number, form)
 
       pub faulted : {levels′ : List ℕ} {j : ℕ} → Gives text row (soFar h) levels levels′ (Fault j) → length levels′ ≡ length levels
