@@ -30,6 +30,7 @@ use Rattle.line.specs.declared.Effect.the-variants.{Fault, Head, Entry}
 use Rattle.line.specs.Lines.{begun, withNumber, fieldEnd, FieldRead, Numbered, Whole, Room, Counts, Gives, formIn}
 use Rattle.line.proofs.Judges.{step-wrong}
 use Rattle.line.proofs.Walks as W
+use Rattle.reader.proofs.Pieces as P
 use Rattle.reader.specs.declared.Verdict.the-variants.{Taken, Refused}
 use Rattle.reader.specs.Heard.{Walked, verdictOf, verdictAt}
 
@@ -115,10 +116,10 @@ module _ {text before levels : List ℕ} {h : Plan} {number at : ℕ} (w : Walki
 
       go : (b : Bool) → eqb number 1 ≡ b → Left text before levels h fault number
       go true t =
-          let nothing = sym (w .rest) ∙ W.pieces-empty text at number (w .p) out (eqb-true number 1 t) in
+          let nothing = sym (w .rest) ∙ P.pieces-empty text at number (w .p) out (eqb-true number 1 t) in
           left-refused (w .held .long) nothing (rw (sound, t)) (w .held .rest)
       go false t =
-          let all = sym (w .rest) ∙ W.pieces-end text at number (w .p) out (omega (arith, w .one, eqb-false number 1 t)) in
+          let all = sym (w .rest) ∙ P.pieces-end text at number (w .p) out (omega (arith, w .one, eqb-false number 1 t)) in
           left-taken (w .held .long) all (rw (sound, t)) (w .holds) (w .held)
 
   counts : Counts (w .p) (h .events) (h .count) (h .used)
@@ -142,7 +143,7 @@ module _ {text before levels : List ℕ} {h : Plan} {number at k : ℕ} (w : Wal
     (on : at < length text) (ends : k ≡ at + until LINE-FEED (slice at (length text) text)) where
   -- a line without line feed
   pub unended : k ≡ length text → Left text before levels h WRONG-FORM number
-  unended e = wrong-form w (sym (w .rest) ∙ W.pieces-last text at k number (w .p) on ends e)
+  unended e = wrong-form w (sym (w .rest) ∙ P.pieces-last text at k number (w .p) on ends e)
 
   pub current : (k ≡ length text → ⊥) → Current text before levels h number at k
   current more = record {
@@ -177,7 +178,7 @@ pub record Scanning (text : List ℕ) (start row : Line) (p : ℕ) : Type 0 wher
   pub few : row .count ≤ p
   pub seen : List ℤ
   pub numbered : Numbered seen row
-  pub rest : numbers (after TAB (slice (start .first) (start .«end») text)) ≡ W.onto seen (numbers (after TAB (slice p (start .«end») text)))
+  pub rest : numbers (after TAB (slice (start .first) (start .«end») text)) ≡ P.onto seen (numbers (after TAB (slice p (start .«end») text)))
 
 numbered-none : (text : List ℕ) (number at k : ℕ) → Numbered [] (begun text number at k)
 numbered-none text number at k = record { count = refl; size = refl; at = λ i _. all-same (pos 0) 4 i }
@@ -220,13 +221,13 @@ module _ {text before levels : List ℕ} {h : Plan} {number at k : ℕ} (o : Cur
     few = omega arith;
     seen = [];
     numbered = numbered-none text number at k;
-    rest = W.scan-start _;
+    rest = P.scan-start _;
   }
 
   stepped : lines text ≡ onward text number k (lineStep number (w .p) (formAt text at k))
   stepped =
-      sym (w .rest) ∙ W.pieces-step text at k number (w .p) (o .on) (o .ends) (o .inner)
-      ∙ rw (W.form-cut text at k (wordEnd text at k) (line-in .0) (line-in .1) refl)
+      sym (w .rest) ∙ P.pieces-step text at k number (w .p) (o .on) (o .ends) (o .inner)
+      ∙ rw (P.form-cut text at k (wordEnd text at k) (line-in .0) (line-in .1) refl)
 
   module _ {row : Line} {p : ℕ} (s : Scanning text (begun text number at k) row p) where
     -- ---- a field
@@ -246,18 +247,18 @@ module _ {text before levels : List ℕ} {h : Plan} {number at k : ℕ} (o : Cur
             few = omega (arith, s .few, g .0);
             seen = s .seen ++ (v ∷ []);
             numbered = numbered-more (s .numbered) v;
-            rest = W.scan-good text p k next more (line-in .1) (f .0) (s .seen) _ (s .rest) v (rw (f .0) (f .1));
+            rest = P.scan-good text p k next more (line-in .1) (f .0) (s .seen) _ (s .rest) v (rw (f .0) (f .1));
           }
 
       pub unread : FieldRead text p k Wrong → Left text before levels h WRONG-FORM number
       unread f =
-          let bad = W.scan-bad text p k (fieldEnd text p k) more (line-in .1) refl (s .seen) _ (s .rest) f in
+          let bad = P.scan-bad text p k (fieldEnd text p k) more (line-in .1) refl (s .seen) _ (s .rest) f in
           wrong-form w (stepped ∙ rw (bad, step-wrong number (w .p)))
 
     -- ---- all fields are read
     module _ (all : k ≤ p) where
       all-seen : numbersIn text at k ≡ some (s .seen)
-      all-seen = W.scan-end text p k (omega (arith, s .inside)) (s .seen) _ (s .rest)
+      all-seen = P.scan-end text p k (omega (arith, s .inside)) (s .seen) _ (s .rest)
 
       pub whole : Whole text row
       whole = rw (s .kept) (record {
@@ -269,7 +270,7 @@ module _ {text before levels : List ℕ} {h : Plan} {number at k : ℕ} (o : Cur
       same-number = ap (λ (l : Line). l .number) (s .kept)
 
       form : formIn text row ≡ formAt text at k
-      form = rw (s .kept, all-seen) (sym (W.word-form (slice at (wordEnd text at k) text) (s .seen)))
+      form = rw (s .kept, all-seen) (sym (P.word-form (slice at (wordEnd text at k) text) (s .seen)))
 
       judged : lines text ≡ onward text number k (lineStep (row .number) (w .p) (formIn text row))
       judged = stepped ∙ rw (same-number, form)
