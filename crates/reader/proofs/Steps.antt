@@ -172,32 +172,32 @@ abbrev readOn : Line → ℕ → List ℤ → Line
 readOn l n fs = record { number = l .number; word = l .word; first = l .first; «end» = l .«end»; count = n; fields = fs }
 
 -- before the field at p of a line that began as `start`: the numbers seen, with those that are left, are all
-pub record Scanning (text : List ℕ) (start row : Line) (p : ℕ) : Type 0 where
-  pub kept : row ≡ readOn start (row .count) (row .fields)
+pub record Scanning (text : List ℕ) (start line : Line) (p : ℕ) : Type 0 where
+  pub kept : line ≡ readOn start (line .count) (line .fields)
   pub inside : p ≤ start .«end»
-  pub few : row .count ≤ p
+  pub few : line .count ≤ p
   pub seen : List ℤ
-  pub numbered : Numbered seen row
+  pub numbered : Numbered seen line
   pub rest : numbers (after TAB (slice (start .first) (start .«end») text)) ≡ P.onto seen (numbers (after TAB (slice p (start .«end») text)))
 
 numbered-none : (text : List ℕ) (number at k : ℕ) → Numbered [] (begun text number at k)
 numbered-none text number at k = record { count = refl; size = refl; at = λ i _. all-same (pos 0) 4 i }
 
 -- one number more: from the fifth on it is stored nowhere
-numbered-more : {vs : List ℤ} {row : Line} → Numbered vs row → (v : ℤ) → Numbered (vs ++ (v ∷ [])) (withNumber row v)
-numbered-more {vs} {row} n v = record {
+numbered-more : {vs : List ℤ} {line : Line} → Numbered vs line → (v : ℤ) → Numbered (vs ++ (v ∷ [])) (withNumber line v)
+numbered-more {vs} {line} n v = record {
   count = omega (arith, n .count, length-append vs (v ∷ []));
-  size = length-set (row .fields) (row .count) v ∙ n .size;
-  at = λ k l. go k l (ltb (row .count) 4) refl;
+  size = length-set (line .fields) (line .count) v ∙ n .size;
+  at = λ k l. go k l (ltb (line .count) 4) refl;
 }
   where
-    go : (k : ℕ) → k < 4 → (b : Bool) → ltb (row .count) 4 ≡ b → getD (set (row .fields) (row .count) v) k (pos 0) ≡ item (vs ++ (v ∷ [])) k
+    go : (k : ℕ) → k < 4 → (b : Bool) → ltb (line .count) 4 ≡ b → getD (set (line .fields) (line .count) v) k (pos 0) ≡ item (vs ++ (v ∷ [])) k
     go k l true t =
-        let room : row .count < length (row .fields) = omega (arith, n .size, ltb-true (row .count) 4 t) in
-        one-more (pos 0) (λ i. i < 4) (row .fields) vs v (row .count) (n .count) room (n .at) k l
+        let room : line .count < length (line .fields) = omega (arith, n .size, ltb-true (line .count) 4 t) in
+        one-more (pos 0) (λ i. i < 4) (line .fields) vs v (line .count) (n .count) room (n .at) k l
     go k l false t =
-        let far : 4 ≤ row .count = ltb-false (row .count) 4 t in
-        getD-set-other (row .fields) (row .count) k v (pos 0) (λ e. omega arith) ∙ n .at k l
+        let far : 4 ≤ line .count = ltb-false (line .count) 4 t in
+        getD-set-other (line .fields) (line .count) k v (pos 0) (λ e. omega arith) ∙ n .at k l
         ∙ sym (List·getD-append vs (v ∷ []) (pos 0) k (omega (arith, n .count)))
 
 module _ {text before levels : List ℕ} {h : Plan} {number at k : ℕ} (o : Current text before levels h number at k) where
@@ -229,20 +229,20 @@ module _ {text before levels : List ℕ} {h : Plan} {number at k : ℕ} (o : Cur
       sym (w .rest) ∙ P.pieces-step text at k number (w .p) (o .on) (o .ends) (o .inner)
       ∙ rw (P.form-cut text at k (wordEnd text at k) (line-in .0) (line-in .1) refl)
 
-  module _ {row : Line} {p : ℕ} (s : Scanning text (begun text number at k) row p) where
+  module _ {line : Line} {p : ℕ} (s : Scanning text (begun text number at k) line p) where
     -- ---- a field
     module _ (more : p < k) where
-      pub room-more : length text ≤ MOST-BYTES → (row .count < MOST-BYTES) × (length (row .fields) ≡ 4)
+      pub room-more : length text ≤ MOST-BYTES → (line .count < MOST-BYTES) × (length (line .fields) ≡ 4)
       room-more short = (omega (arith, s .few, line-in .1), s .numbered .size)
 
       pub field-in : {v : ℤ} {next : ℕ} → FieldRead text p k (Number v next) → (p < next) × (next ≤ k)
       field-in {v} {next} f = let g = W.field-in text p k next more (line-in .1) (f .0) in (omega (arith, g .0), g .1)
 
-      pub scan-more : {v : ℤ} {next : ℕ} → FieldRead text p k (Number v next) → Scanning text (begun text number at k) (withNumber row v) next
+      pub scan-more : {v : ℤ} {next : ℕ} → FieldRead text p k (Number v next) → Scanning text (begun text number at k) (withNumber line v) next
       scan-more {v} {next} f =
           let g = field-in f in
           record {
-            kept = ap (λ (l : Line). readOn l (row .count + 1) (set (row .fields) (row .count) v)) (s .kept);
+            kept = ap (λ (l : Line). readOn l (line .count + 1) (set (line .fields) (line .count) v)) (s .kept);
             inside = g .1;
             few = omega (arith, s .few, g .0);
             seen = s .seen ++ (v ∷ []);
@@ -260,26 +260,26 @@ module _ {text before levels : List ℕ} {h : Plan} {number at k : ℕ} (o : Cur
       all-seen : numbersIn text at k ≡ some (s .seen)
       all-seen = P.scan-end text p k (omega (arith, s .inside)) (s .seen) _ (s .rest)
 
-      pub whole : Whole text row
+      pub whole : Whole text line
       whole = rw (s .kept) (record {
         fielded = record { inside = word-in; within = line-in .1; all = rw all-seen };
         numbered = rw all-seen (rw (s .kept) at (s .numbered));
       })
 
-      same-number : row .number ≡ number
+      same-number : line .number ≡ number
       same-number = ap (λ (l : Line). l .number) (s .kept)
 
-      form : formIn text row ≡ formAt text at k
+      form : formIn text line ≡ formAt text at k
       form = rw (s .kept, all-seen) (sym (P.word-form (slice at (wordEnd text at k) text) (s .seen)))
 
-      judged : lines text ≡ onward text number k (lineStep (row .number) (w .p) (formIn text row))
+      judged : lines text ≡ onward text number k (lineStep (line .number) (w .p) (formIn text line))
       judged = stepped ∙ rw (same-number, form)
 
-      pub faulted : {levels′ : List ℕ} {j : ℕ} → Gives text row (soFar h) levels levels′ (Fault j) → length levels′ ≡ length levels
+      pub faulted : {levels′ : List ℕ} {j : ℕ} → Gives text line (soFar h) levels levels′ (Fault j) → length levels′ ≡ length levels
           → Left text before levels′ h j number
       faulted f long = broken w (f .some) (judged ∙ rw (f .step (w .p) (counts w))) long (f .above)
 
-      pub headed : {levels′ : List ℕ} {m z : ℕ} → Gives text row (soFar h) levels levels′ (Head m z)
+      pub headed : {levels′ : List ℕ} {m z : ℕ} → Gives text line (soFar h) levels levels′ (Head m z)
           → Walking text before levels′ (withHead h m z) (number + 1) (k + 1)
       headed {levels′} {m} {z} f =
           let e : w .p ≡ empty = w .start (sym same-number ∙ f .first) in
@@ -298,7 +298,7 @@ module _ {text before levels : List ℕ} {h : Plan} {number at k : ℕ} (o : Cur
           }
 
       pub entered : {levels′ : List ℕ} {r : Record} {n : ℕ} → MOST-LEVELS-TOGETHER ≤ length before → n ≡ r .count
-          → Gives text row (soFar h) levels levels′ (Entry r) → Walking text before levels′ (withRow h r n) (number + 1) (k + 1)
+          → Gives text line (soFar h) levels levels′ (Entry r) → Walking text before levels′ (withRow h r n) (number + 1) (k + 1)
       entered {levels′} {r} {n} long e f =
           let c : n ≡ length (levelsIn (f .entry)) = e ∙ ap (λ (x : Record). x .count) (f .row) in
           record {

@@ -54,7 +54,7 @@ fn verdict_of(fault: u8, line: usize) -> Verdict
     Verdict::Taken
 }
 
-// The lines of a text from the top, and in each line its fields, up to the first fault.
+// The lines of a text from the top, and in each line its fields, up to the first fault, which leaves both loops.
 fn read_lines(text: &[u8], levels: &mut [u8]) -> Answer
     requires { ⌜ (length (now text) ≤ MOST-BYTES) × (MOST-LEVELS-TOGETHER ≤ length (now levels)) × LevelsHeld empty (now levels) (now levels) ⌝ }
     ensures { λ r. ⌜ Walked (now (text .entry)) (now (levels .entry)) (now (levels .exit)) r ⌝ }
@@ -70,13 +70,13 @@ fn read_lines(text: &[u8], levels: &mut [u8]) -> Answer
             fault = WRONG_FORM;
             break 'lines;
         }
-        let mut row = line::begin(text, number, at, end);
-        let mut p = row.first;
-        while p < end {
-            match line::field_after(text, p, end) {
+        let mut line = line::begin(text, number, at, end);
+        let mut tab = line.first;
+        while tab < end {
+            match line::field_after(text, tab, end) {
                 Field::Number(v, next) => {
-                    row = line::with_number(row, v);
-                    p = next;
+                    line = line::with_number(line, v);
+                    tab = next;
                 }
                 Field::Wrong => {
                     fault = WRONG_FORM;
@@ -89,7 +89,7 @@ fn read_lines(text: &[u8], levels: &mut [u8]) -> Answer
             records: plan.count,
             levels: plan.used,
         };
-        match line::take(text, row, so_far, levels) {
+        match line::take(text, line, so_far, levels) {
             Effect::Fault(k) => {
                 fault = k;
                 break 'lines;

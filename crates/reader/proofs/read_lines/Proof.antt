@@ -24,10 +24,10 @@ use Rattle.reader.proofs.read_lines.Statement.{statement}
 use Rattle.reader.proofs.read_lines.Tie as tie
 
 abbrev Inv-loop : tie.InvT-loop
-Inv-loop text levels plan len fault₀ number at end row₀ p₀ fault row p = (fault ≡ 0) × Scanning text (begun text number at end) row p
+Inv-loop text levels plan len fault₀ number at end line₀ tab₀ fault line tab = (fault ≡ 0) × Scanning text (begun text number at end) line tab
 
 abbrev μ-loop : tie.MeasureT-loop
-μ-loop text levels plan len fault₀ number at end row₀ p₀ fault row p = end - p
+μ-loop text levels plan len fault₀ number at end line₀ tab₀ fault line tab = end - tab
 
 abbrev Inv-lines : tie.InvT-lines
 Inv-lines text levels₀ plan₀ len fault₀ number₀ at₀ levels plan fault number at = (fault ≡ 0) × Walking text levels₀ levels plan number at
@@ -83,11 +83,11 @@ found l = l .before .before
 abbrev loop-of : tie.After-v Inv-loop μ-loop Inv-lines μ-lines → At-loop
 loop-of c = c .before .before .before .before
 
-in-loop : (c : tie.After-v Inv-loop μ-loop Inv-lines μ-lines) → loop-of c .loop .p < end-of (found (loop-of c))
+in-loop : (c : tie.After-v Inv-loop μ-loop Inv-lines μ-lines) → loop-of c .loop .tab < end-of (found (loop-of c))
 in-loop c = c .before .before .before .loop-test .taken
 
 field : (c : tie.After-v Inv-loop μ-loop Inv-lines μ-lines) → let l = loop-of c in
-    FieldRead (text (line-of (found l))) (l .loop .p) (end-of (found l)) (Number (c .v .given .0 .0) (c .v .given .0 .1 .0))
+    FieldRead (text (line-of (found l))) (l .loop .tab) (end-of (found l)) (Number (c .v .given .0 .0) (c .v .given .0 .1 .0))
 field c = rw (c .v .given .1) at (c .before .before .field-after .ensures)
 
 fits : (c : tie.After-known-told Inv-loop μ-loop Inv-lines μ-lines) → SFits w32 (c .before .v .given .0 .0)
@@ -107,12 +107,12 @@ this t = line-of (found (fields-of t))
 abbrev after : Took → List ℕ
 after t = t .take .last .1 .1 .1 .0
 
-all-read : (t : Took) → end-of (found (fields-of t)) ≤ fields-of t .loop .p
+all-read : (t : Took) → end-of (found (fields-of t)) ≤ fields-of t .loop .tab
 all-read t = t .before .before .loop-test .left
 
 -- what the line gave
 abbrev Given : Took → Effect → Type 0
-Given t r = Gives (text (this t)) (fields-of t .loop .row) (S.soFar (this t .lines .plan)) (this t .lines .levels) (after t) r
+Given t r = Gives (text (this t)) (fields-of t .loop .line) (S.soFar (this t .lines .plan)) (this t .lines .levels) (after t) r
 
 -- the walk goes on with this plan
 abbrev Next : Took → Plan → Type 0
