@@ -69,7 +69,7 @@ begin {text} o l = record {
 
 -- ---- out of the walk
 
--- the answer is right that the verdict at this fault and this line makes
+-- with this fault (0: none) in line `number`: the answer that the two make is right
 pub record Left (text before levels : List ℕ) (h : Plan) (fault number : ℕ) : Type 0 where
   pub long : length levels ≡ length before
   pub walked : Walked text before levels (record { verdict = verdictAt fault number; plan = h })
@@ -125,11 +125,6 @@ module _ {text before levels : List ℕ} {h : Plan} {number at : ℕ} (w : Walki
   counts : Counts (w .p) (h .events) (h .count) (h .used)
   counts = record { events = sym (w .holds .events); records = sym (w .holds .count); levels = sym (w .holds .used) }
 
--- ---- the plan in memory after a line
-
-abbrev pub withHead : Plan → ℕ → ℕ → Plan
-withHead h m z = record { events = m; horizon = z; count = h .count; used = h .used; records = h .records }
-
 -- ---- in a line
 
 -- the line from `at` up to its line feed at k
@@ -163,13 +158,17 @@ numbersIn text at k = numbers (after TAB (slice (wordEnd text at k) k text))
 abbrev formAt : List ℕ → ℕ → ℕ → Form
 formAt text at k = formOf (slice at (wordEnd text at k) text) (numbersIn text at k)
 
--- the reading of the text, from what line `number`, up to k, does
+-- the reading of the text, by what line `number` does, which ends at k
 abbrev onward : List ℕ → ℕ → ℕ → Step → Reading
 onward text number k = afterStep number (λ p. readPieces (split LINE-FEED (slice (k + 1) (length text) text)) (number + 1) p)
 
 -- a line with other numbers
 abbrev readOn : Line → ℕ → List ℤ → Line
 readOn l n fs = record { number = l .number; word = l .word; first = l .first; «end» = l .«end»; count = n; fields = fs }
+
+-- the plan in memory after the first line
+abbrev pub withHead : Plan → ℕ → ℕ → Plan
+withHead h m z = record { events = m; horizon = z; count = h .count; used = h .used; records = h .records }
 
 -- before the field at p of a line that began as `start`: the numbers seen, with those that are left, are all
 pub record Scanning (text : List ℕ) (start line : Line) (p : ℕ) : Type 0 where
