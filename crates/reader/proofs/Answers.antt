@@ -7,12 +7,12 @@ use borrow.Author.Tests.{lt-ltb, le-ltb, le-leb, lt-leb}
 use lib.ListN.{length}
 use Rattle.meaning.specs.Plan.{MOST-BYTES, MOST-LEVELS-TOGETHER}
 use Rattle.meaning.specs.Reading as R
-use Rattle.meaning.specs.Reading.{Reading, plan, refused, empty}
+use Rattle.meaning.specs.Reading.{Reading, plan, refused}
 use Rattle.meaning.specs.Numbers.{TOO-MANY, AREA-TOO-SHORT}
 use Rattle.plan.specs.Held.{Holds, LevelsHeld}
 use Rattle.reader.specs.declared.Answer.{Answer}
 use Rattle.reader.specs.declared.Verdict.the-variants.{Taken, Refused}
-use Rattle.reader.specs.Heard.{Cleared, Read, Walked, heard, verdictOf, planIn}
+use Rattle.reader.specs.Heard.{Cleared, Refusal, Read, Walked, heard, verdictOf, planIn}
 use Rattle.reader.proofs.Area.{cleared-empty, held-from, cleared-again}
 use Rattle.reader.proofs.Steps.{lines}
 
@@ -35,10 +35,6 @@ refused-is (plan p) k l e = let z : _≡_ {A = ℕ} 0 1 = cc in absurd (omega ar
 refused-is (refused m n) k l e = cc
 
 -- ---- the answer
-
--- a refusal, which leaves no plan
-abbrev pub Refusal : ℕ → ℕ → Answer → Type 0
-Refusal k line r = (r .verdict ≡ Refused k line) × Holds empty (r .plan)
 
 -- the area is too short
 pub read-short : {text before : List ℕ} {r : Answer} → length before < MOST-LEVELS-TOGETHER → Refusal AREA-TOO-SHORT 0 r → Read text before before r

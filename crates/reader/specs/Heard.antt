@@ -15,7 +15,7 @@ use Rattle.reader.specs.declared.Answer.{Answer}
 use Rattle.reader.specs.declared.Verdict.{Verdict}
 use Rattle.reader.specs.declared.Verdict.the-variants.{Taken, Refused}
 
--- 7 at place 0 for an area too short comes first; then the text
+-- an area too short comes first, at place 0; then the text
 abbrev pub heard : List ℕ → List ℕ → Reading
 heard area text = cond (leb MOST-LEVELS-TOGETHER (length area)) (R.read text) (R.refused AREA-TOO-SHORT 0)
 
@@ -51,6 +51,10 @@ pub record Cleared (n : ℕ) (before after : List ℕ) : Type 0 where
   pub long : length after ≡ length before
   pub done : (i : ℕ) → i < n → getD after i 0 ≡ 0
   pub rest : (i : ℕ) → n ≤ i → getD after i 0 ≡ getD before i 0
+
+-- a refusal, which leaves no plan
+abbrev pub Refusal : ℕ → ℕ → Answer → Type 0
+Refusal k line r = (r .verdict ≡ Refused k line) × Holds empty (r .plan)
 
 -- the verdict at the end of the walk: `fault` is 0 where there was none; a text of no line has its fault in line 1
 abbrev pub verdictAt : ℕ → ℕ → Verdict

@@ -4,9 +4,8 @@ ghost use Prim.Native.Nat.{_≤_};
 ghost use lib.ListN.{length};
 ghost use Rattle.meaning.specs.Plan.{MOST-LEVELS-TOGETHER, MOST-BYTES};
 ghost use Rattle.meaning.specs.Reading.{empty};
-ghost use Rattle.plan.specs.Held.{Holds, LevelsHeld};
-ghost use Rattle.reader.specs.declared.Verdict.the-variants.{Refused};
-ghost use Rattle.reader.specs.Heard.{Cleared, Read, Walked, verdictAt};
+ghost use Rattle.plan.specs.Held.{LevelsHeld};
+ghost use Rattle.reader.specs.Heard.{Cleared, Refusal, Read, Walked, verdictAt};
 use line::Effect;
 use line::Field;
 use line::SoFar;
@@ -116,7 +115,7 @@ fn read_lines(text: &[u8], levels: &mut [u8]) -> Answer
 
 // A refusal, which leaves no plan.
 fn refusal(k: u8, line: usize) -> Answer
-    ensures { λ r. ⌜ (r .verdict ≡ Refused k line) × Holds empty (r .plan) ⌝ }
+    ensures { λ r. ⌜ Refusal k line r ⌝ }
 {
     Answer {
         verdict: Verdict::Refused(k, line),
