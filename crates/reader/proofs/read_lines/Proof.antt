@@ -168,6 +168,7 @@ out c =
     (⊎-elim
     (λ w.
     let i : tie.In-lines Inv-loop μ-loop Inv-lines μ-lines = record { before = c .before; lines-test = w .0 } in
+    -- no line feed
     rw (w .3, w .4) (unended (record { before = record { before = i; find = w .1 }; if1 = w .2 })))
     (⊎-elim
     (λ w.
@@ -175,6 +176,7 @@ out c =
     let f : Found = record { before = record { before = i; find = w .1 }; if1 = w .2 } in
     let l : At-loop = record { before = record { before = f; begin = w .3 }; loop = w .4 } in
     let r : tie.After-field-after Inv-loop μ-loop Inv-lines μ-lines = record { before = record { before = l; loop-test = w .5 }; field-after = w .6 } in
+    -- a field that is no number
     rw (w .9, w .10) (unread (record { before = record { before = r; match = w .7 }; enum-told = w .8 })))
     (λ w.
     let i : tie.In-lines Inv-loop μ-loop Inv-lines μ-lines = record { before = c .before; lines-test = w .0 } in
@@ -182,6 +184,7 @@ out c =
     let l : At-loop = record { before = record { before = f; begin = w .3 }; loop = w .4 } in
     let t : Took = record { before = record { before = record { before = l; loop-test = w .5 }; take-arg = w .6 }; take = w .7 } in
     let m : tie.After-slice-known2 Inv-loop μ-loop Inv-lines μ-lines = record { before = record { before = t; levels = w .8 }; slice-known2 = w .9 } in
+    -- a fault of the line
     rw (w .13, w .14) (faulted (record { before = record { before = m; match2 = w .10 }; k = w .11 })))))
     (c .lines-test .came)
 
