@@ -1,4 +1,5 @@
--- What a plan in memory gives to those who use it: each row of the struct is its record of the plan, and the record's levels stand in the area where the row says.
+-- What a plan in memory gives to those who use it: each row of the struct is its record of the plan, and the record's levels stand in
+-- the area where the row says.
 use mathlib.Core.Path.{_≡_, refl, ap, _∙_}
 use mathlib.Core.Bool.{false}
 use mathlib.Core.List.{List, [], _∷_}
@@ -7,12 +8,11 @@ use native.Mathlib.Omega.{arith}
 use borrow.Author.Tests.{ne-eqb}
 use lib.Dec.{eqb}
 use lib.ListN.{length, getD, take, List·getD-append}
-use lib.Seq.{slice, length-slice, getD-append-add, ext-getD}
+use lib.Seq.{slice, length-slice, getD-append-add, getD-drop, getD-take, ext-getD}
 use Rattle.meaning.specs.Plan as M
 use Rattle.meaning.specs.Plan.{MOST-LEVELS-TOGETHER, nothing, recordAt}
 use Rattle.meaning.specs.Reading.{levelsTogether}
 use Rattle.meaning.specs.Faultless.{WithoutFault, Levelled}
-use Rattle.text.proofs.Slices.{slice-at}
 use Rattle.plan.specs.declared.Record.{Record}
 use Rattle.plan.specs.declared.Plan.{Plan}
 use Rattle.plan.specs.Held.{levelsIn, rowOf, rowsOf, flat, blank, recordOf, Holds}
@@ -96,7 +96,7 @@ module _ {p : M.Plan} {h : Plan} (area : List ℕ) (o : Holds p h) (f : WithoutF
 
       same : slice n (n + length ls) area ≡ ls
       same = ext-getD 0 _ ls long (λ i q. let j : i < length ls = omega (arith, long) in
-          slice-at area n (n + length ls) i (omega arith) ∙ levels (n + i) (omega (arith, fits)) ∙ level-at (p .records) k i l j)
+          getD-drop n _ i 0 ∙ getD-take (n + length ls) area (n + i) 0 (omega arith) ∙ levels (n + i) (omega (arith, fits)) ∙ level-at (p .records) k i l j)
 
   -- the row and its levels are record k
   pub record-at : recordOf area (rowAt h k) ≡ recordAt p k

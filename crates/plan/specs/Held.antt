@@ -40,7 +40,9 @@ blank = record { a = 0; b = 0; first = 0; count = 0; lo = pos 0; hi = pos 0 }
 
 -- a record in memory, with the area of all levels, as a record of the plan
 abbrev pub recordOf : List ℕ → Record → M.Record
-recordOf levels r = cond (eqb (r .count) 0) (M.rule (r .a) (r .b) (r .lo) (r .hi)) (M.wish (r .a) (r .b) (r .lo) (slice (r .first) (r .first + r .count) levels))
+recordOf levels r =
+    cond (eqb (r .count) 0) (M.rule (r .a) (r .b) (r .lo) (r .hi))
+    (M.wish (r .a) (r .b) (r .lo) (slice (r .first) (r .first + r .count) levels))
 
 -- ---- the plan
 

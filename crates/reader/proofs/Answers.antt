@@ -1,60 +1,73 @@
--- The answer of the reader from what its parts answer.
+-- The answer of the reader from what its parts answer: one law for each way out of `read`.
 use mathlib.Core.Path.{_≡_, refl, sym, ap, _∙_}
 use mathlib.Core.List.{List}
 use Prim.Native.Nat.{ℕ, _≤_, _<_}
 use native.Mathlib.Omega.{arith}
 use borrow.Author.Tests.{lt-ltb, le-ltb, le-leb, lt-leb}
-use lib.ListN.{length, getD}
-use Rattle.meaning.specs.Plan as M
-use Rattle.meaning.specs.Plan.{MOST-LEVELS-TOGETHER}
+use lib.ListN.{length}
+use Rattle.meaning.specs.Plan.{MOST-BYTES, MOST-LEVELS-TOGETHER}
 use Rattle.meaning.specs.Reading as R
-use Rattle.meaning.specs.Reading.{Reading, plan, refused, empty}
+use Rattle.meaning.specs.Reading.{Reading, plan, refused}
 use Rattle.meaning.specs.Numbers.{TOO-MANY, AREA-TOO-SHORT}
+use Rattle.plan.specs.Held.{Holds, LevelsHeld}
 use Rattle.reader.specs.declared.Answer.{Answer}
 use Rattle.reader.specs.declared.Verdict.the-variants.{Taken, Refused}
-use Rattle.plan.specs.Held.{Holds, LevelsHeld}
-use Rattle.reader.specs.Heard.{Read, heard, verdictOf, planIn}
+use Rattle.reader.specs.Heard.{Cleared, Refusal, Read, Walked, heard, verdictOf, planIn}
+use Rattle.reader.proofs.Area.{cleared-empty, held-from, cleared-again}
 use Rattle.reader.proofs.Steps.{lines}
 
 -- ---- the reading
 
-pub text-long : (text : List ℕ) → 60000 < length text → R.read text ≡ refused TOO-MANY 0
+text-long : (text : List ℕ) → MOST-BYTES < length text → R.read text ≡ refused TOO-MANY 0
 unfolding R.read
-text-long text h = rw (lt-ltb 60000 (length text) h)
+text-long text h = rw (lt-ltb MOST-BYTES (length text) h)
 
-pub text-short : (text : List ℕ) → length text ≤ 60000 → R.read text ≡ lines text
+text-short : (text : List ℕ) → length text ≤ MOST-BYTES → R.read text ≡ lines text
 unfolding R.read
-text-short text h = rw (le-ltb 60000 (length text) h)
+text-short text h = rw (le-ltb MOST-BYTES (length text) h)
 
-pub taken-plan : (x : Reading) → Taken ≡ verdictOf x → x ≡ plan (planIn x)
+taken-plan : (x : Reading) → Taken ≡ verdictOf x → x ≡ plan (planIn x)
 taken-plan (plan p) e = refl
 taken-plan (refused k l) e = let z : _≡_ {A = ℕ} 0 1 = cc in absurd (omega arith)
 
-pub refused-is : (x : Reading) (k l : ℕ) → Refused k l ≡ verdictOf x → x ≡ refused k l
+refused-is : (x : Reading) (k l : ℕ) → Refused k l ≡ verdictOf x → x ≡ refused k l
 refused-is (plan p) k l e = let z : _≡_ {A = ℕ} 0 1 = cc in absurd (omega arith)
 refused-is (refused m n) k l e = cc
 
--- ---- the area, cleared first, and cleared again after a refusal
-
-pub held-from : (p : M.Plan) (before cleared after : List ℕ) → LevelsHeld empty before cleared → LevelsHeld p cleared after → LevelsHeld p before after
-held-from p before cleared after a b = record { long = b .long ∙ a .long; done = b .done; rest = λ i h. b .rest i h ∙ a .rest i h }
-
-pub cleared-again : (before cleared walked after : List ℕ) → LevelsHeld empty before cleared → length walked ≡ length cleared → ((i : ℕ) → 8192 ≤ i → getD walked i 0 ≡ getD cleared i 0)
-    → LevelsHeld empty walked after → LevelsHeld empty before after
-cleared-again before cleared walked after a n above b = record { long = b .long ∙ n ∙ a .long; done = b .done; rest = λ i h. b .rest i h ∙ above i h ∙ a .rest i h }
-
 -- ---- the answer
 
-module _ (text before after : List ℕ) (r : Answer) where
-  pub read-short : length before < 8192 → r .verdict ≡ Refused AREA-TOO-SHORT 0 → Holds empty (r .plan) → after ≡ before → Read text before after r
-  read-short h v o e =
-      let no = lt-leb 8192 (length before) h in
-      record { verdict = rw no v; held = rw no o; short = λ _. e; levels = λ l. absurd (omega arith) }
+-- the area is too short
+pub read-short : {text before : List ℕ} {r : Answer} → length before < MOST-LEVELS-TOGETHER → Refusal AREA-TOO-SHORT 0 r → Read text before before r
+read-short {text} {before} s o =
+    let no = lt-leb MOST-LEVELS-TOGETHER (length before) s in
+    record { verdict = rw no (o .0); held = rw no (o .1); short = λ _. refl; levels = λ l. absurd (omega arith) }
 
-  pub read-as : (x : Reading) → 8192 ≤ length before → R.read text ≡ x → r .verdict ≡ verdictOf x → Holds (planIn x) (r .plan) → LevelsHeld (planIn x) before after → Read text before after r
-  read-as x h e v o l =
-      let known : heard before text ≡ x = rw (le-leb 8192 (length before) h) e in
+module _ {text before cleared : List ℕ} (long : MOST-LEVELS-TOGETHER ≤ length before) (clean : Cleared MOST-LEVELS-TOGETHER before cleared) where
+  read-as : {after : List ℕ} {r : Answer} (x : Reading) → R.read text ≡ x → r .verdict ≡ verdictOf x → Holds (planIn x) (r .plan)
+      → LevelsHeld (planIn x) before after → Read text before after r
+  read-as x e v o l =
+      let known : heard before text ≡ x = rw (le-leb MOST-LEVELS-TOGETHER (length before) long) e in
       record { verdict = rw known v; held = rw known o; short = λ s. absurd (omega arith); levels = λ _. rw known l }
+
+  -- the text is too long
+  pub read-long : {r : Answer} → MOST-BYTES < length text → Refusal TOO-MANY 0 r → Read text before cleared r
+  read-long h o = read-as (refused TOO-MANY 0) (text-long text h) (o .0) (o .1) (cleared-empty clean)
+
+  module _ {walked : List ℕ} {s : Answer} (small : length text ≤ MOST-BYTES) (w : Walked text cleared walked s) where
+    -- the lines are a plan
+    pub read-plan : s .verdict ≡ Taken → Read text before walked s
+    read-plan e =
+        let p = planIn (lines text) in
+        let said = taken-plan (lines text) (sym e ∙ w .verdict) in
+        let image = w .found p said in
+        read-as (plan p) (text-short text small ∙ said) e (image .0) (held-from clean (image .1))
+
+    -- a line has a fault
+    pub read-fault : {after : List ℕ} {r : Answer} {k line : ℕ} → s .verdict ≡ Refused k line → length walked ≡ length cleared
+        → Cleared MOST-LEVELS-TOGETHER walked after → Refusal k line r → Read text before after r
+    read-fault {after} {r} {k} {line} e n again o =
+        let said = refused-is (lines text) k line (sym e ∙ w .verdict) in
+        read-as (refused k line) (text-short text small ∙ said) (o .0) (o .1) (cleared-again clean n (w .above) again)
 
 -- ---- what an answer says to those who use it: in an area long enough memory holds what the text is read as
 

@@ -4,20 +4,17 @@ ghost use Prim.Native.Nat.{_≤_};
 ghost use lib.ListN.{length};
 ghost use Rattle.meaning.specs.Plan.{MOST-LEVELS-TOGETHER, MOST-BYTES};
 ghost use Rattle.meaning.specs.Reading.{empty};
-ghost use Rattle.plan.specs.Held.{Holds, LevelsHeld};
-ghost use Rattle.reader.specs.declared.Verdict.the-variants.{Refused};
-ghost use Rattle.reader.specs.Heard.{Read, Walked};
-use line::Fields;
-use line::Line;
+ghost use Rattle.plan.specs.Held.{LevelsHeld};
+ghost use Rattle.reader.specs.Heard.{Cleared, Refusal, Read, Walked, verdictAt};
+use line::Effect;
+use line::Field;
+use line::SoFar;
 use plan::Plan;
 use scope::AREA_TOO_SHORT;
 use scope::MOST_BYTES;
 use scope::MOST_LEVELS;
 use scope::TOO_MANY;
 use scope::WRONG_FORM;
-use text::Number;
-
-const TAB: u8 = 9;
 
 const LINE_FEED: u8 = 10;
 
@@ -31,19 +28,32 @@ pub struct Answer {
     pub plan: Plan,
 }
 
-// The area of levels as for a plan without wishes.
-fn clear(levels: &mut [u8])
-    requires { ⌜ MOST-LEVELS-TOGETHER ≤ length (now levels) ⌝ }
-    ensures { λ r. ⌜ LevelsHeld empty (now (levels .entry)) (now (levels .exit)) ⌝ }
+// The first `count` places of the area are 0.
+fn clear(levels: &mut [u8], count: usize)
+    requires { ⌜ count ≤ length (now levels) ⌝ }
+    ensures { λ r. ⌜ Cleared count (now (levels .entry)) (now (levels .exit)) ⌝ }
 {
     let mut i = 0;
-    while i < MOST_LEVELS {
+    while i < count {
         levels[i] = 0;
         i += 1;
     }
 }
 
-// The lines of a text from the top, and in each line its fields, up to the first fault.
+// The verdict at the end of the walk: `fault` is 0 where there was none; a text of no line has its fault in line 1.
+fn verdict_of(fault: u8, line: usize) -> Verdict
+    ensures { λ r. ⌜ r ≡ verdictAt fault line ⌝ }
+{
+    if fault != 0 {
+        return Verdict::Refused(fault, line);
+    }
+    if line == 1 {
+        return Verdict::Refused(WRONG_FORM, 1);
+    }
+    Verdict::Taken
+}
+
+// The lines of a text from the top, and in each line its fields, up to the first fault, which leaves both loops.
 fn read_lines(text: &[u8], levels: &mut [u8]) -> Answer
     requires { ⌜ (length (now text) ≤ MOST-BYTES) × (MOST-LEVELS-TOGETHER ≤ length (now levels)) × LevelsHeld empty (now levels) (now levels) ⌝ }
     ensures { λ r. ⌜ Walked (now (text .entry)) (now (levels .entry)) (now (levels .exit)) r ⌝ }
@@ -51,7 +61,7 @@ fn read_lines(text: &[u8], levels: &mut [u8]) -> Answer
     let mut plan = plan::empty_plan();
     let len = text.len();
     let mut fault: u8 = 0;
-    let mut line: usize = 1;
+    let mut number: usize = 1;
     let mut at: usize = 0;
     'lines: while at < len {
         let end = text::find(text, at, len, LINE_FEED);
@@ -59,77 +69,53 @@ fn read_lines(text: &[u8], levels: &mut [u8]) -> Answer
             fault = WRONG_FORM;
             break 'lines;
         }
-        let first = text::find(text, at, end, TAB);
-        let word = text::read_word(text, at, first);
-        let mut f = Fields {
-            count: 0,
-            first: [0; 4],
-        };
-        let mut p = first;
-        while p < end {
-            let next = text::find(text, p + 1, end, TAB);
-            match text::read_number(text, p + 1, next) {
-                Number::Value(v) => {
-                    f = line::with_number(f, v);
+        let mut line = line::begin(text, number, at, end);
+        let mut tab = line.first;
+        while tab < end {
+            match line::field_after(text, tab, end) {
+                Field::Number(v, next) => {
+                    line = line::with_number(line, v);
+                    tab = next;
                 }
-                Number::Stopped(_) => {
+                Field::Wrong => {
                     fault = WRONG_FORM;
                     break 'lines;
                 }
             }
-            p = next;
         }
-        match line::take_line(
-            line,
-            word,
-            f,
-            plan.events,
-            plan.count,
-            plan.used,
-            text,
-            first,
-            end,
-            levels,
-        ) {
-            Line::Fault(k) => {
+        let so_far = SoFar {
+            events: plan.events,
+            records: plan.count,
+            levels: plan.used,
+        };
+        match line::take(text, line, so_far, levels) {
+            Effect::Fault(k) => {
                 fault = k;
                 break 'lines;
             }
-            Line::Head(n, h) => {
+            Effect::Head(n, h) => {
                 plan.events = n;
                 plan.horizon = h;
             }
-            Line::Entry(r) => {
+            Effect::Entry(r) => {
                 let k = plan.count;
                 plan.records[k] = r;
                 plan.count = k + 1;
-                plan.used = plan.used + (r.count as usize);
+                plan.used = plan.used + widths::from_u16(r.count);
             }
         }
-        line += 1;
+        number += 1;
         at = end + 1;
     }
-    if fault == 0 {
-        if line == 1 {
-            return Answer {
-                verdict: Verdict::Refused(WRONG_FORM, 1),
-                plan: plan,
-            };
-        }
-        return Answer {
-            verdict: Verdict::Taken,
-            plan: plan,
-        };
-    }
     Answer {
-        verdict: Verdict::Refused(fault, line),
+        verdict: verdict_of(fault, number),
         plan: plan,
     }
 }
 
 // A refusal, which leaves no plan.
 fn refusal(k: u8, line: usize) -> Answer
-    ensures { λ r. ⌜ (r .verdict ≡ Refused k line) × Holds empty (r .plan) ⌝ }
+    ensures { λ r. ⌜ Refusal k line r ⌝ }
 {
     Answer {
         verdict: Verdict::Refused(k, line),
@@ -144,7 +130,7 @@ pub fn read(text: &[u8], levels: &mut [u8]) -> Answer
     if levels.len() < MOST_LEVELS {
         return refusal(AREA_TOO_SHORT, 0);
     }
-    clear(levels);
+    clear(levels, MOST_LEVELS);
     if MOST_BYTES < text.len() {
         return refusal(TOO_MANY, 0);
     }
@@ -153,7 +139,7 @@ pub fn read(text: &[u8], levels: &mut [u8]) -> Answer
     match verdict {
         Verdict::Taken => answer,
         Verdict::Refused(k, line) => {
-            clear(levels);
+            clear(levels, MOST_LEVELS);
             refusal(k, line)
         }
     }

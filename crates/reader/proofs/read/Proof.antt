@@ -1,19 +1,18 @@
--- `plan::read` meets its contract: each way out by what its last calls answer.
-use mathlib.Core.Path.{refl, sym, _∙_}
-use Rattle.meaning.specs.Reading.{plan, refused}
-use Rattle.meaning.specs.Numbers.{TOO-MANY}
-use Rattle.reader.proofs.Steps.{lines}
-use Rattle.reader.specs.Heard.{planIn}
-use Rattle.reader.proofs.Answers.{text-long, text-short, taken-plan, refused-is, held-from, cleared-again, read-short, read-as}
+-- `reader::read` meets its contract: each way out by what its last calls answer.
 use borrow.Author.Needs.{needs}
+use Rattle.reader.proofs.Answers.{read-short, read-long, read-plan, read-fault}
 use Rattle.reader.proofs.read.Statement.{statement}
 use Rattle.reader.proofs.read.Tie as tie
+
+-- the area is cleared, and its length was tested before
+abbrev long-area : tie.After-slice-known2 → tie.Else1
+long-area c = c .before .before .before .before
 
 refusal-requires : tie.Need-refusal-requires
 refusal-requires c κs = search needs
 
 returns : tie.Need-returns
-returns c = read-short (c .before .before .before .before .args .text .now) (c .before .before .before .before .args .levels .now) _ (c .refusal .result) (c .before .if1 .taken) (c .refusal .ensures .0) (c .refusal .ensures .1) refl
+returns c = read-short (c .before .if1 .taken) (c .refusal .ensures)
 
 clear-requires : tie.Need-clear-requires
 clear-requires c κs = search needs
@@ -25,7 +24,9 @@ same-length : tie.Need-same-length
 same-length c = search needs
 
 returns-2 : tie.Need-returns-2
-returns-2 c = read-as (c .before .before .before .before .before .before .before .before .before .args .text .now) (c .before .before .before .before .before .before .before .before .before .args .levels .now) (c .before .before .before .before .clear .last .0) (c .refusal2 .result) (refused TOO-MANY 0) (c .before .before .before .before .before .before .if1 .left) (text-long (c .before .before .before .before .before .before .before .before .before .args .text .now) (c .before .if2 .taken)) (c .refusal2 .ensures .0) (c .refusal2 .ensures .1) (c .before .before .before .before .clear .ensures)
+returns-2 c =
+    let m = c .before .before in
+    read-long (long-area m .if1 .left) (m .before .before .clear .ensures) (c .before .if2 .taken) (c .refusal2 .ensures)
 
 read-lines-requires : tie.Need-read-lines-requires
 read-lines-requires c κs = search needs
@@ -47,23 +48,23 @@ same-length-2 c = search needs
 
 returns-3 : tie.Need-returns-3
 returns-3 c =
-    let w = c .before .before .before .before .read-lines .ensures in
-    let p = planIn (lines (c .before .before .before .before .before .before .before .before .before .before .before .before .before .before .args .text .now)) in
-    let said = taken-plan (lines (c .before .before .before .before .before .before .before .before .before .before .before .before .before .before .args .text .now)) (sym (c .enum-told .given .1) ∙ w .verdict) in
-    let image = w .found p said in
-    read-as (c .before .before .before .before .before .before .before .before .before .before .before .before .before .before .args .text .now) (c .before .before .before .before .before .before .before .before .before .before .before .before .before .before .args .levels .now) (c .before .before .before .before .read-lines .last .1 .0) (c .before .before .before .before .read-lines .result) (plan p) (c .before .before .before .before .before .before .before .before .before .before .before .if1 .left) ((text-short (c .before .before .before .before .before .before .before .before .before .before .before .before .before .before .args .text .now) (c .before .before .before .before .before .before .if2 .left)) ∙ said) (c .enum-told .given .1) (image .0) (held-from p (c .before .before .before .before .before .before .before .before .before .before .before .before .before .before .args .levels .now) (c .before .before .before .before .before .before .before .before .before .clear .last .0) (c .before .before .before .before .read-lines .last .1 .0) (c .before .before .before .before .before .before .before .before .before .clear .ensures) (image .1))
+    let w = c .before .before .before .before in
+    let e = w .before .before in
+    let m = e .before in
+    read-plan (long-area m .if1 .left) (m .before .before .clear .ensures) (e .if2 .left) (w .read-lines .ensures) (c .enum-told .given .1)
 
 same-length-3 : tie.Need-same-length-3
 same-length-3 c = search needs
 
 returns-4 : tie.Need-returns-4
 returns-4 c =
-    let w = c .before .before .before .before .before .before .before .before .before .before .read-lines .ensures in
-    let k = c .before .before .before .before .before .before .verdict .given .0 .0 in
-    let line = c .before .before .before .before .before .before .verdict .given .0 .1 .0 in
-    let said = refused-is (lines (c .before .before .before .before .before .before .before .before .before .before .before .before .before .before .before .before .before .before .before .before .args .text .now)) k line (sym (c .before .before .before .before .before .before .verdict .given .1) ∙ w .verdict) in
-    read-as (c .before .before .before .before .before .before .before .before .before .before .before .before .before .before .before .before .before .before .before .before .args .text .now) (c .before .before .before .before .before .before .before .before .before .before .before .before .before .before .before .before .before .before .before .before .args .levels .now) (c .before .before .before .clear2 .last .0) (c .refusal3 .result) (refused k line) (c .before .before .before .before .before .before .before .before .before .before .before .before .before .before .before .before .before .if1 .left) ((text-short (c .before .before .before .before .before .before .before .before .before .before .before .before .before .before .before .before .before .before .before .before .args .text .now) (c .before .before .before .before .before .before .before .before .before .before .before .before .if2 .left)) ∙ said) (c .refusal3 .ensures .0) (c .refusal3 .ensures .1)
-    (cleared-again (c .before .before .before .before .before .before .before .before .before .before .before .before .before .before .before .before .before .before .before .before .args .levels .now) (c .before .before .before .before .before .before .before .before .before .before .before .before .before .before .before .clear .last .0) (c .before .before .before .before .before .before .before .before .before .before .read-lines .last .1 .0) (c .before .before .before .clear2 .last .0) (c .before .before .before .before .before .before .before .before .before .before .before .before .before .before .before .clear .ensures) (c .before .before .before .before .before .before .before .before .before .before .read-lines .kept .1 .0) (w .above) (c .before .before .before .clear2 .ensures))
+    let a = c .before .before .before in
+    let v = a .before .before .before in
+    let w = v .before .before .before .before in
+    let e = w .before .before in
+    let m = e .before in
+    read-fault (long-area m .if1 .left) (m .before .before .clear .ensures) (e .if2 .left) (w .read-lines .ensures) (v .verdict .given .1)
+    (w .read-lines .kept .1 .0) (a .clear2 .ensures) (c .refusal3 .ensures)
 
 pub read-spec : {M : Type 1} → statement M
 read-spec =

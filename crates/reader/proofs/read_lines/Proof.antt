@@ -1,209 +1,243 @@
--- `plan::read_lines` meets its contract. Before each line `Walking` holds; in a line the numbers seen and those left are all its numbers; each way out is the first fault, or the end of the text.
+-- `reader::read_lines` meets its contract. Before each line `Walking` holds, in a line before each field `Scanning`; a step of either
+-- loop is a law of `Steps`. The four ways out (the end of the text, a line without line feed, a field that is no number, a fault of the line) each give `Left`.
+use mathlib.Core.Path.{_≡_, refl, subst}
+use mathlib.Core.Logic.{⊎-elim}
+use mathlib.Core.List.{List}
 use Prim.Native.Nat.{ℕ, _+_, _-_, _≤_, _<_}
-use mathlib.Core.Path.{_≡_, refl, sym, ap, _∙_}
-use mathlib.Core.Logic.{_⊎_, inl, inr, ⊎-elim}
-use mathlib.Core.Option.{none, some}
-use mathlib.Core.List.{List, [], _∷_, _++_}
 use native.Mathlib.Omega.{arith}
 use borrow.Author.Needs.{needs}
-use lib.ListN.{length, getD, set, length-append}
-use lib.Seq.{slice}
-use lib.IntN.{ℤ, pos}
+use lib.ListN.{length}
 use mir.Facts.{toZ-ofZ}
 use mir.Syntax.{w32}
 use mir.Val.{SFits}
-use Rattle.text.specs.Bytes.{after}
-use Rattle.text.specs.Answers.{numberAs}
-use Rattle.meaning.specs.Reading.{TAB, numberOf, numbers, refused}
+use Rattle.meaning.specs.Plan.{MOST-BYTES, MOST-LEVELS-TOGETHER}
 use Rattle.meaning.specs.Numbers.{WRONG-FORM}
-use Rattle.line.specs.declared.Fields.{Fields}
-use Rattle.plan.specs.declared.Record.{Record}
-use Rattle.line.specs.declared.Line.the-variants.{Fault, Head, Entry}
-use Rattle.line.specs.Lines.{Numbers, restOf, Fielded, Faulted, Headed, Entered, wordForm}
-use Rattle.plan.proofs.Padded.{all-same}
-use Rattle.line.proofs.Judges.{says-of}
-use Rattle.line.proofs.Walks as W
+use Rattle.plan.specs.declared.Plan.{Plan}
+use Rattle.plan.proofs.Growth.{withRow}
+use Rattle.line.specs.Lines.{begun, FieldRead, Gives}
+use Rattle.line.specs.declared.Effect.{Effect}
+use Rattle.line.specs.declared.Effect.the-variants.{Entry}
+use Rattle.line.specs.declared.Field.the-variants.{Number}
 use Rattle.reader.proofs.Steps as S
-use Rattle.reader.proofs.Steps.{Walking, lines}
+use Rattle.reader.proofs.Steps.{Walking, Current, Scanning, Left, withHead}
 use Rattle.reader.proofs.read_lines.Statement.{statement}
 use Rattle.reader.proofs.read_lines.Tie as tie
 
--- in a line, before the field at p: the numbers seen, with those that are left, are all
-record Scanning (text : List ℕ) (first end fault : ℕ) (f : Fields) (p : ℕ) : Type 0 where
-  none : fault ≡ 0
-  past : first ≤ p
-  inside : p ≤ end
-  few : f .count ≤ p
-  seen : List ℤ
-  fields : Numbers seen f
-  rest : numbers (after TAB (slice first end text)) ≡ W.onto seen (numbers (after TAB (slice p end text)))
-
--- out of the walk: at the end of the text, or at the first fault
-record Ended (text levels after : List ℕ) (fault at : ℕ) : Type 0 where
-  none : fault ≡ 0
-  done : length text ≤ at
-  same : after ≡ levels
-
-record Broken (text before after : List ℕ) (fault line : ℕ) : Type 0 where
-  real : fault ≡ 0 → ⊥
-  said : lines text ≡ refused fault line
-  long : length after ≡ length before
-  above : (i : ℕ) → 8192 ≤ i → getD after i 0 ≡ getD before i 0
-
 abbrev Inv-loop : tie.InvT-loop
-Inv-loop text levels plan len fault₀ line at end first word f₀ p₀ fault f p = Scanning text first end fault f p
+Inv-loop text levels plan len fault₀ number at end line₀ tab₀ fault line tab = (fault ≡ 0) × Scanning text (begun text number at end) line tab
 
 abbrev μ-loop : tie.MeasureT-loop
-μ-loop text levels plan len fault₀ line at end first word f₀ p₀ fault f p = end - p
+μ-loop text levels plan len fault₀ number at end line₀ tab₀ fault line tab = end - tab
 
 abbrev Inv-lines : tie.InvT-lines
-Inv-lines text levels₀ plan₀ len fault₀ line₀ at₀ levels plan fault line at = (fault ≡ 0) × Walking text levels₀ levels plan line at
+Inv-lines text levels₀ plan₀ len fault₀ number₀ at₀ levels plan fault number at = (fault ≡ 0) × Walking text levels₀ levels plan number at
 
 abbrev μ-lines : tie.MeasureT-lines
-μ-lines text levels₀ plan₀ len fault₀ line₀ at₀ levels plan fault line at = length text - at
+μ-lines text levels₀ plan₀ len fault₀ number₀ at₀ levels plan fault number at = length text - at
 
-inner : (c : tie.Else1 Inv-loop μ-loop Inv-lines μ-lines) → (c .before .find .result) < length (c .before .before .before .before .before .before .before .args .text .now)
-inner c = omega (arith, S.line-in (c .before .before .before .before .before .before .before .args .text .now) (c .before .before .before .before .before .before .before .args .levels .now) (c .before .before .before .lines .levels) (c .before .before .before .lines .plan) (c .before .before .before .lines .line) (c .before .before .before .lines .at) (c .before .before .before .lines .inv .1) (c .before .find .result) (c .before .before .lines-test .taken) (c .before .find .ensures) .1, c .if1 .left)
+-- ---- before a line
 
-in-word : (c : tie.After-find2 Inv-loop μ-loop Inv-lines μ-lines) → ((c .before .before .before .before .lines .at) ≤ (c .find2 .result)) × ((c .find2 .result) ≤ (c .before .before .find .result))
-in-word c = S.word-in (c .before .before .before .before .before .before .before .before .args .text .now) (c .before .before .before .before .before .before .before .before .args .levels .now) (c .before .before .before .before .lines .levels) (c .before .before .before .before .lines .plan) (c .before .before .before .before .lines .line) (c .before .before .before .before .lines .at) (c .before .before .before .before .lines .inv .1) (c .before .before .find .result) (c .before .before .before .lines-test .taken) (c .before .before .find .ensures) (inner (c .before)) (c .find2 .result) (c .find2 .ensures) _ refl
+abbrev At-lines : Type 0
+At-lines = tie.At-lines Inv-loop μ-loop Inv-lines μ-lines
 
-field : (c : tie.After-find3 Inv-loop μ-loop Inv-lines μ-lines) → (c .before .before .loop .p + 1 ≤ c .find3 .result) × (c .find3 .result ≤ (c .before .before .before .before .before .before .find .result))
-field c = W.field-in (c .before .before .before .before .before .before .before .before .before .before .before .before .args .text .now) (c .before .before .loop .p) (c .before .before .before .before .before .before .find .result) (c .find3 .result) (c .before .loop-test .taken) (S.line-in (c .before .before .before .before .before .before .before .before .before .before .before .before .args .text .now) (c .before .before .before .before .before .before .before .before .before .before .before .before .args .levels .now) (c .before .before .before .before .before .before .before .before .lines .levels) (c .before .before .before .before .before .before .before .before .lines .plan) (c .before .before .before .before .before .before .before .before .lines .line) (c .before .before .before .before .before .before .before .before .lines .at) (c .before .before .before .before .before .before .before .before .lines .inv .1) (c .before .before .before .before .before .before .find .result) (c .before .before .before .before .before .before .before .lines-test .taken) (c .before .before .before .before .before .before .find .ensures) .1) (c .find3 .ensures)
+abbrev text : At-lines → List ℕ
+text a = a .before .before .before .before .args .text .now
+
+abbrev area : At-lines → List ℕ
+area a = a .before .before .before .before .args .levels .now
+
+short : (a : At-lines) → length (text a) ≤ MOST-BYTES
+short a = a .before .before .before .before .pre .0
+
+long : (a : At-lines) → MOST-LEVELS-TOGETHER ≤ length (area a)
+long a = a .before .before .before .before .pre .1
+
+-- the walk is left at this fault, and `levels` is then the area
+abbrev Out : At-lines → List ℕ → ℕ → Type 0
+Out a levels fault = Left (text a) (area a) levels (a .lines .plan) fault (a .lines .number)
+
+-- ---- in a line: its end is found, then its fields are read
+
+abbrev Found : Type 0
+Found = tie.Else1 Inv-loop μ-loop Inv-lines μ-lines
+
+abbrev line-of : Found → At-lines
+line-of f = f .before .before .before
+
+abbrev end-of : Found → ℕ
+end-of f = f .before .find .result
+
+abbrev Here : Found → Type 0
+Here f = let a = line-of f in Current (text a) (area a) (a .lines .levels) (a .lines .plan) (a .lines .number) (a .lines .at) (end-of f)
+
+here : (f : Found) → Here f
+here f = S.current (line-of f .lines .inv .1) (f .before .before .lines-test .taken) (f .before .find .ensures) (f .if1 .left)
+
+abbrev At-loop : Type 0
+At-loop = tie.At-loop Inv-loop μ-loop Inv-lines μ-lines
+
+abbrev found : At-loop → Found
+found l = l .before .before
+
+-- a field that is a number
+abbrev loop-of : tie.After-v Inv-loop μ-loop Inv-lines μ-lines → At-loop
+loop-of c = c .before .before .before .before
+
+in-loop : (c : tie.After-v Inv-loop μ-loop Inv-lines μ-lines) → loop-of c .loop .tab < end-of (found (loop-of c))
+in-loop c = c .before .before .before .loop-test .taken
+
+field : (c : tie.After-v Inv-loop μ-loop Inv-lines μ-lines) → let l = loop-of c in
+    FieldRead (text (line-of (found l))) (l .loop .tab) (end-of (found l)) (Number (c .v .given .0 .0) (c .v .given .0 .1 .0))
+field c = rw (c .v .given .1) at (c .before .before .field-after .ensures)
 
 fits : (c : tie.After-known-told Inv-loop μ-loop Inv-lines μ-lines) → SFits w32 (c .before .v .given .0 .0)
 fits c = record { sfits = c .known-told .given .0 .1 }
 
--- the numbers of a line whose fields were all read
-all-seen : (c : tie.After-loop Inv-loop μ-loop Inv-lines μ-lines) → numbers (after TAB (slice (c .before .before .before .find2 .result) (c .before .before .before .before .before .find .result) (c .before .before .before .before .before .before .before .before .before .before .before .args .text .now))) ≡ some (c .before .loop .inv .seen)
-all-seen c =
-    let l = c .before .loop in
-    W.scan-end (c .before .before .before .before .before .before .before .before .before .before .before .args .text .now) (l .p) (c .before .before .before .before .before .find .result) (omega (arith, c .loop-test .left, l .inv .inside)) (l .inv .seen) (numbers (after TAB (slice (c .before .before .before .find2 .result) (c .before .before .before .before .before .find .result) (c .before .before .before .before .before .before .before .before .before .before .before .args .text .now)))) (l .inv .rest)
+-- ---- after a line
 
-fielded : (c : tie.After-loop Inv-loop μ-loop Inv-lines μ-lines) → Fielded (c .before .before .before .before .before .before .before .before .before .before .before .args .text .now) (c .before .before .before .find2 .result) (c .before .before .before .before .before .find .result)
-fielded c = record { inside = in-word (c .before .before .before) .1; within = S.line-in (c .before .before .before .before .before .before .before .before .before .before .before .args .text .now) (c .before .before .before .before .before .before .before .before .before .before .before .args .levels .now) (c .before .before .before .before .before .before .before .lines .levels) (c .before .before .before .before .before .before .before .lines .plan) (c .before .before .before .before .before .before .before .lines .line) (c .before .before .before .before .before .before .before .lines .at) (c .before .before .before .before .before .before .before .lines .inv .1) (c .before .before .before .before .before .find .result) (c .before .before .before .before .before .before .lines-test .taken) (c .before .before .before .before .before .find .ensures) .1; all = rw (all-seen c) }
+abbrev Took : Type 0
+Took = tie.After-take Inv-loop μ-loop Inv-lines μ-lines
 
-read : (c : tie.After-loop Inv-loop μ-loop Inv-lines μ-lines) → Numbers (restOf (slice (c .before .before .before .find2 .result) (c .before .before .before .before .before .find .result) (c .before .before .before .before .before .before .before .before .before .before .before .args .text .now))) (c .before .loop .f)
-read c = rw (all-seen c) (c .before .loop .inv .fields)
+abbrev fields-of : Took → At-loop
+fields-of t = t .before .before .before
+
+abbrev this : Took → At-lines
+this t = line-of (found (fields-of t))
+
+abbrev after : Took → List ℕ
+after t = t .take .last .1 .1 .1 .0
+
+all-read : (t : Took) → end-of (found (fields-of t)) ≤ fields-of t .loop .tab
+all-read t = t .before .before .loop-test .left
 
 -- what the line gave
-fault-is : (c : tie.After-k Inv-loop μ-loop Inv-lines μ-lines) → Faulted (c .before .before .before .before .before .before .before .before .before .before .before .before .before .lines .line) (wordForm (c .before .before .before .before .before .before .before .before .read-word .result) (restOf (slice (c .before .before .before .before .before .before .before .before .before .find2 .result) (c .before .before .before .before .before .before .before .before .before .before .before .find .result) (c .before .before .before .before .before .before .before .before .before .before .before .before .before .before .before .before .before .args .text .now)))) ((c .before .before .before .before .before .before .before .before .before .before .before .before .before .lines .plan) .events) ((c .before .before .before .before .before .before .before .before .before .before .before .before .before .lines .plan) .count) ((c .before .before .before .before .before .before .before .before .before .before .before .before .before .lines .plan) .used) (c .before .before .before .before .before .before .before .before .before .before .before .before .before .lines .levels) (c .before .before .before .before .take-line .last .1 .1 .1 .1 .1 .1 .1 .1 .1 .0) (c .k .given .0 .0)
-fault-is c = says-of (c .before .before .before .before .before .before .before .before .before .before .before .before .before .lines .line) (wordForm (c .before .before .before .before .before .before .before .before .read-word .result) (restOf (slice (c .before .before .before .before .before .before .before .before .before .find2 .result) (c .before .before .before .before .before .before .before .before .before .before .before .find .result) (c .before .before .before .before .before .before .before .before .before .before .before .before .before .before .before .before .before .args .text .now)))) ((c .before .before .before .before .before .before .before .before .before .before .before .before .before .lines .plan) .events) ((c .before .before .before .before .before .before .before .before .before .before .before .before .before .lines .plan) .count) ((c .before .before .before .before .before .before .before .before .before .before .before .before .before .lines .plan) .used) (c .before .before .before .before .before .before .before .before .before .before .before .before .before .lines .levels) (c .before .before .before .before .take-line .last .1 .1 .1 .1 .1 .1 .1 .1 .1 .0) (c .before .before .before .before .take-line .result) (Fault (c .k .given .0 .0)) (c .k .given .1) (c .before .before .before .before .take-line .ensures)
+abbrev Given : Took → Effect → Type 0
+Given t r = Gives (text (this t)) (fields-of t .loop .line) (S.soFar (this t .lines .plan)) (this t .lines .levels) (after t) r
 
-head : (c : tie.After-n Inv-loop μ-loop Inv-lines μ-lines) → Headed (c .before .before .before .before .before .before .before .before .before .before .before .before .before .lines .line) (wordForm (c .before .before .before .before .before .before .before .before .read-word .result) (restOf (slice (c .before .before .before .before .before .before .before .before .before .find2 .result) (c .before .before .before .before .before .before .before .before .before .before .before .find .result) (c .before .before .before .before .before .before .before .before .before .before .before .before .before .before .before .before .before .args .text .now)))) (c .before .before .before .before .before .before .before .before .before .before .before .before .before .lines .levels) (c .before .before .before .before .take-line .last .1 .1 .1 .1 .1 .1 .1 .1 .1 .0) (c .n .given .0 .0) (c .n .given .0 .1 .0)
-head c = says-of (c .before .before .before .before .before .before .before .before .before .before .before .before .before .lines .line) (wordForm (c .before .before .before .before .before .before .before .before .read-word .result) (restOf (slice (c .before .before .before .before .before .before .before .before .before .find2 .result) (c .before .before .before .before .before .before .before .before .before .before .before .find .result) (c .before .before .before .before .before .before .before .before .before .before .before .before .before .before .before .before .before .args .text .now)))) ((c .before .before .before .before .before .before .before .before .before .before .before .before .before .lines .plan) .events) ((c .before .before .before .before .before .before .before .before .before .before .before .before .before .lines .plan) .count) ((c .before .before .before .before .before .before .before .before .before .before .before .before .before .lines .plan) .used) (c .before .before .before .before .before .before .before .before .before .before .before .before .before .lines .levels) (c .before .before .before .before .take-line .last .1 .1 .1 .1 .1 .1 .1 .1 .1 .0) (c .before .before .before .before .take-line .result) (Head (c .n .given .0 .0) (c .n .given .0 .1 .0)) (c .n .given .1) (c .before .before .before .before .take-line .ensures)
+-- the walk goes on with this plan
+abbrev Next : Took → Plan → Type 0
+Next t h = Walking (text (this t)) (area (this t)) (after t) h (this t .lines .number + 1) (end-of (found (fields-of t)) + 1)
 
-entry-is : (c : tie.After-r Inv-loop μ-loop Inv-lines μ-lines) → Entered (c .before .before .before .before .before .before .before .before .before .before .before .before .before .lines .line) (wordForm (c .before .before .before .before .before .before .before .before .read-word .result) (restOf (slice (c .before .before .before .before .before .before .before .before .before .find2 .result) (c .before .before .before .before .before .before .before .before .before .before .before .find .result) (c .before .before .before .before .before .before .before .before .before .before .before .before .before .before .before .before .before .args .text .now)))) ((c .before .before .before .before .before .before .before .before .before .before .before .before .before .lines .plan) .events) ((c .before .before .before .before .before .before .before .before .before .before .before .before .before .lines .plan) .count) ((c .before .before .before .before .before .before .before .before .before .before .before .before .before .lines .plan) .used) (c .before .before .before .before .before .before .before .before .before .before .before .before .before .lines .levels) (c .before .before .before .before .take-line .last .1 .1 .1 .1 .1 .1 .1 .1 .1 .0) (c .r .given .0 .0)
-entry-is c = says-of (c .before .before .before .before .before .before .before .before .before .before .before .before .before .lines .line) (wordForm (c .before .before .before .before .before .before .before .before .read-word .result) (restOf (slice (c .before .before .before .before .before .before .before .before .before .find2 .result) (c .before .before .before .before .before .before .before .before .before .before .before .find .result) (c .before .before .before .before .before .before .before .before .before .before .before .before .before .before .before .before .before .args .text .now)))) ((c .before .before .before .before .before .before .before .before .before .before .before .before .before .lines .plan) .events) ((c .before .before .before .before .before .before .before .before .before .before .before .before .before .lines .plan) .count) ((c .before .before .before .before .before .before .before .before .before .before .before .before .before .lines .plan) .used) (c .before .before .before .before .before .before .before .before .before .before .before .before .before .lines .levels) (c .before .before .before .before .take-line .last .1 .1 .1 .1 .1 .1 .1 .1 .1 .0) (c .before .before .before .before .take-line .result) (Entry (c .r .given .0 .0)) (c .r .given .1) (c .before .before .before .before .take-line .ensures)
+-- the three arms of the match
+abbrev took : tie.After-slice-known2 Inv-loop μ-loop Inv-lines μ-lines → Took
+took m = m .before .before
 
-entry : (c : tie.After-known-told4 Inv-loop μ-loop Inv-lines μ-lines) → Entered (c .before .before .before .before .before .before .before .before .before .before .before .before .before .before .lines .line) (wordForm (c .before .before .before .before .before .before .before .before .before .read-word .result) (restOf (slice (c .before .before .before .before .before .before .before .before .before .before .find2 .result) (c .before .before .before .before .before .before .before .before .before .before .before .before .find .result) (c .before .before .before .before .before .before .before .before .before .before .before .before .before .before .before .before .before .before .args .text .now)))) ((c .before .before .before .before .before .before .before .before .before .before .before .before .before .before .lines .plan) .events) ((c .before .before .before .before .before .before .before .before .before .before .before .before .before .before .lines .plan) .count) ((c .before .before .before .before .before .before .before .before .before .before .before .before .before .before .lines .plan) .used) (c .before .before .before .before .before .before .before .before .before .before .before .before .before .before .lines .levels) (c .before .before .before .before .before .take-line .last .1 .1 .1 .1 .1 .1 .1 .1 .1 .0) (c .before .r .given .0 .0)
-entry c = entry-is (c .before)
+gave : {x : Effect} (t : Took) → t .take .result ≡ x → Given t x
+gave t e = subst (Given t) e (t .take .ensures)
 
-small : (c : tie.After-known-told4 Inv-loop μ-loop Inv-lines μ-lines) → (c .before .before .before .before .before .before .before .before .before .before .before .before .before .before .lines .plan) .used + c .before .r .given .0 .0 .count ≤ 8192
-small c =
-    let e = entry c in
-    omega (arith, e .room, ap (λ (x : Record). x .count) (e .row))
+entry : (c : tie.After-r Inv-loop μ-loop Inv-lines μ-lines) → Given (took (c .before .before)) (Entry (c .r .given .0 .0))
+entry c = gave (took (c .before .before)) (c .r .given .1)
 
--- the line after this one
-headed : (c : tie.After-known-told3 Inv-loop μ-loop Inv-lines μ-lines) → Walking (c .before .before .before .before .before .before .before .before .before .before .before .before .before .before .before .before .before .before .args .text .now) (c .before .before .before .before .before .before .before .before .before .before .before .before .before .before .before .before .before .before .args .levels .now) (c .before .before .before .before .before .take-line .last .1 .1 .1 .1 .1 .1 .1 .1 .1 .0) (record { events = c .before .n .given .0 .0; horizon = c .before .n .given .0 .1 .0; count = (c .before .before .before .before .before .before .before .before .before .before .before .before .before .before .lines .plan) .count; used = (c .before .before .before .before .before .before .before .before .before .before .before .before .before .before .lines .plan) .used; records = (c .before .before .before .before .before .before .before .before .before .before .before .before .before .before .lines .plan) .records }) ((c .before .before .before .before .before .before .before .before .before .before .before .before .before .before .lines .line) + 1) ((c .before .before .before .before .before .before .before .before .before .before .before .before .find .result) + 1)
-headed c = S.headed (c .before .before .before .before .before .before .before .before .before .before .before .before .before .before .before .before .before .before .args .text .now) (c .before .before .before .before .before .before .before .before .before .before .before .before .before .before .before .before .before .before .args .levels .now) (c .before .before .before .before .before .before .before .before .before .before .before .before .before .before .lines .levels) (c .before .before .before .before .before .before .before .before .before .before .before .before .before .before .lines .plan) (c .before .before .before .before .before .before .before .before .before .before .before .before .before .before .lines .line) (c .before .before .before .before .before .before .before .before .before .before .before .before .before .before .lines .at) (c .before .before .before .before .before .before .before .before .before .before .before .before .before .before .lines .inv .1) (c .before .before .before .before .before .before .before .before .before .before .before .before .find .result) (c .before .before .before .before .before .before .before .before .before .before .before .before .before .lines-test .taken) (c .before .before .before .before .before .before .before .before .before .before .before .before .find .ensures) (inner (c .before .before .before .before .before .before .before .before .before .before .before)) (c .before .before .before .before .before .before .before .before .before .before .find2 .result) (c .before .before .before .before .before .before .before .before .before .before .find2 .ensures) (c .before .before .before .before .before .before .before .before .before .read-word .result) (c .before .before .before .before .before .before .before .before .before .read-word .ensures) (restOf (slice (c .before .before .before .before .before .before .before .before .before .before .find2 .result) (c .before .before .before .before .before .before .before .before .before .before .before .before .find .result) (c .before .before .before .before .before .before .before .before .before .before .before .before .before .before .before .before .before .before .args .text .now))) (fielded (c .before .before .before .before .before .before .before) .all) (c .before .before .before .before .before .take-line .last .1 .1 .1 .1 .1 .1 .1 .1 .1 .0) (c .before .n .given .0 .0) (c .before .n .given .0 .1 .0) (head (c .before))
+headed : (c : tie.After-n Inv-loop μ-loop Inv-lines μ-lines) → let t = took (c .before .before) in
+    Next t (withHead (this t .lines .plan) (c .n .given .0 .0) (c .n .given .0 .1 .0))
+headed c =
+    let t = took (c .before .before) in
+    S.headed (here (found (fields-of t))) (fields-of t .loop .inv .1) (all-read t) (gave t (c .n .given .1))
 
-entered : (c : tie.After-known-told4 Inv-loop μ-loop Inv-lines μ-lines) → Walking (c .before .before .before .before .before .before .before .before .before .before .before .before .before .before .before .before .before .before .args .text .now) (c .before .before .before .before .before .before .before .before .before .before .before .before .before .before .before .before .before .before .args .levels .now) (c .before .before .before .before .before .take-line .last .1 .1 .1 .1 .1 .1 .1 .1 .1 .0) (record { events = (c .before .before .before .before .before .before .before .before .before .before .before .before .before .before .lines .plan) .events; horizon = (c .before .before .before .before .before .before .before .before .before .before .before .before .before .before .lines .plan) .horizon; count = (c .before .before .before .before .before .before .before .before .before .before .before .before .before .before .lines .plan) .count + 1; used = (c .before .before .before .before .before .before .before .before .before .before .before .before .before .before .lines .plan) .used + c .before .r .given .0 .0 .count; records = set ((c .before .before .before .before .before .before .before .before .before .before .before .before .before .before .lines .plan) .records) ((c .before .before .before .before .before .before .before .before .before .before .before .before .before .before .lines .plan) .count) (c .before .r .given .0 .0) }) ((c .before .before .before .before .before .before .before .before .before .before .before .before .before .before .lines .line) + 1) ((c .before .before .before .before .before .before .before .before .before .before .before .before .find .result) + 1)
-entered c = S.entered (c .before .before .before .before .before .before .before .before .before .before .before .before .before .before .before .before .before .before .args .text .now) (c .before .before .before .before .before .before .before .before .before .before .before .before .before .before .before .before .before .before .args .levels .now) (c .before .before .before .before .before .before .before .before .before .before .before .before .before .before .lines .levels) (c .before .before .before .before .before .before .before .before .before .before .before .before .before .before .lines .plan) (c .before .before .before .before .before .before .before .before .before .before .before .before .before .before .lines .line) (c .before .before .before .before .before .before .before .before .before .before .before .before .before .before .lines .at) (c .before .before .before .before .before .before .before .before .before .before .before .before .before .before .lines .inv .1) (c .before .before .before .before .before .before .before .before .before .before .before .before .find .result) (c .before .before .before .before .before .before .before .before .before .before .before .before .before .lines-test .taken) (c .before .before .before .before .before .before .before .before .before .before .before .before .find .ensures) (inner (c .before .before .before .before .before .before .before .before .before .before .before)) (c .before .before .before .before .before .before .before .before .before .before .find2 .result) (c .before .before .before .before .before .before .before .before .before .before .find2 .ensures) (c .before .before .before .before .before .before .before .before .before .read-word .result) (c .before .before .before .before .before .before .before .before .before .read-word .ensures) (restOf (slice (c .before .before .before .before .before .before .before .before .before .before .find2 .result) (c .before .before .before .before .before .before .before .before .before .before .before .before .find .result) (c .before .before .before .before .before .before .before .before .before .before .before .before .before .before .before .before .before .before .args .text .now))) (fielded (c .before .before .before .before .before .before .before) .all) (c .before .before .before .before .before .take-line .last .1 .1 .1 .1 .1 .1 .1 .1 .1 .0) (c .before .r .given .0 .0) (c .before .before .before .before .before .before .before .before .before .before .before .before .before .before .before .before .before .before .pre .1) (entry c)
+entered : (c : tie.After-from-u16 Inv-loop μ-loop Inv-lines μ-lines) → let e = c .before .before in let t = took (e .before .before) in
+    Next t (withRow (this t .lines .plan) (e .r .given .0 .0) (c .from-u16 .result))
+entered c =
+    let e = c .before .before in
+    let t = took (e .before .before) in
+    S.entered (here (found (fields-of t))) (fields-of t .loop .inv .1) (all-read t) (long (this t)) (c .from-u16 .ensures) (entry e)
 
--- the three ways out by the label
-unended : (c : tie.Then1 Inv-loop μ-loop Inv-lines μ-lines) → lines (c .before .before .before .before .before .before .before .args .text .now) ≡ refused WRONG-FORM (c .before .before .before .lines .line)
-unended c = S.unended (c .before .before .before .before .before .before .before .args .text .now) (c .before .before .before .before .before .before .before .args .levels .now) (c .before .before .before .lines .levels) (c .before .before .before .lines .plan) (c .before .before .before .lines .line) (c .before .before .before .lines .at) (c .before .before .before .lines .inv .1) (c .before .find .result) (c .before .before .lines-test .taken) (c .before .find .ensures) (c .if1 .taken)
+-- ---- the ways out
 
-unread : (c : tie.After-enum-told Inv-loop μ-loop Inv-lines μ-lines) → lines (c .before .before .before .before .before .before .before .before .before .before .before .before .before .before .before .args .text .now) ≡ refused WRONG-FORM (c .before .before .before .before .before .before .before .before .before .before .before .lines .line)
+ended : (c : tie.After-lines Inv-loop μ-loop Inv-lines μ-lines) → Out (c .before) (c .before .lines .levels) (c .before .lines .fault)
+ended c = let l = c .before .lines in S.ended (l .inv .1) (l .inv .0) (c .lines-test .left)
+
+unended : (c : tie.Then1 Inv-loop μ-loop Inv-lines μ-lines) → let a = c .before .before .before in Out a (a .lines .levels) WRONG-FORM
+unended c = let i = c .before .before in S.unended (i .before .lines .inv .1) (i .lines-test .taken) (c .before .find .ensures) (c .if1 .taken)
+
+unread : (c : tie.After-enum-told Inv-loop μ-loop Inv-lines μ-lines) → let a = line-of (found (c .before .before .before .before)) in
+    Out a (a .lines .levels) WRONG-FORM
 unread c =
-    let l = c .before .before .before .before .before .loop in
-    let d : numberOf (slice (l .p + 1) (c .before .before .before .find3 .result) (c .before .before .before .before .before .before .before .before .before .before .before .before .before .before .before .args .text .now)) ≡ none = sym (c .before .before .read-number .ensures .0) ∙ ap numberAs (c .enum-told .given .1) in
-    S.unread (c .before .before .before .before .before .before .before .before .before .before .before .before .before .before .before .args .text .now) (c .before .before .before .before .before .before .before .before .before .before .before .before .before .before .before .args .levels .now) (c .before .before .before .before .before .before .before .before .before .before .before .lines .levels) (c .before .before .before .before .before .before .before .before .before .before .before .lines .plan) (c .before .before .before .before .before .before .before .before .before .before .before .lines .line) (c .before .before .before .before .before .before .before .before .before .before .before .lines .at) (c .before .before .before .before .before .before .before .before .before .before .before .lines .inv .1) (c .before .before .before .before .before .before .before .before .before .find .result) (c .before .before .before .before .before .before .before .before .before .before .lines-test .taken) (c .before .before .before .before .before .before .before .before .before .find .ensures) (inner (c .before .before .before .before .before .before .before .before)) (c .before .before .before .before .before .before .before .find2 .result) (c .before .before .before .before .before .before .before .find2 .ensures) (c .before .before .before .before .before .before .read-word .result) (c .before .before .before .before .before .before .read-word .ensures) (W.scan-bad (c .before .before .before .before .before .before .before .before .before .before .before .before .before .before .before .args .text .now) (l .p) (c .before .before .before .before .before .before .before .before .before .find .result) (c .before .before .before .find3 .result) (c .before .before .before .before .loop-test .taken) (S.line-in (c .before .before .before .before .before .before .before .before .before .before .before .before .before .before .before .args .text .now) (c .before .before .before .before .before .before .before .before .before .before .before .before .before .before .before .args .levels .now) (c .before .before .before .before .before .before .before .before .before .before .before .lines .levels) (c .before .before .before .before .before .before .before .before .before .before .before .lines .plan) (c .before .before .before .before .before .before .before .before .before .before .before .lines .line) (c .before .before .before .before .before .before .before .before .before .before .before .lines .at) (c .before .before .before .before .before .before .before .before .before .before .before .lines .inv .1) (c .before .before .before .before .before .before .before .before .before .find .result) (c .before .before .before .before .before .before .before .before .before .before .lines-test .taken) (c .before .before .before .before .before .before .before .before .before .find .ensures) .1) (c .before .before .before .find3 .ensures) (l .inv .seen) (numbers (after TAB (slice (c .before .before .before .before .before .before .before .find2 .result) (c .before .before .before .before .before .before .before .before .before .find .result) (c .before .before .before .before .before .before .before .before .before .before .before .before .before .before .before .args .text .now)))) (l .inv .rest) d)
+    let i = c .before .before .before in
+    let wrong = rw (c .enum-told .given .1) at (c .before .before .field-after .ensures) in
+    S.unread (here (found (i .before))) (i .before .loop .inv .1) (i .loop-test .taken) wrong
 
-faulted : (c : tie.After-known-told2 Inv-loop μ-loop Inv-lines μ-lines) → Broken (c .before .before .before .before .before .before .before .before .before .before .before .before .before .before .before .before .before .before .args .text .now) (c .before .before .before .before .before .before .before .before .before .before .before .before .before .before .before .before .before .before .args .levels .now) (c .before .before .before .before .before .take-line .last .1 .1 .1 .1 .1 .1 .1 .1 .1 .0) (c .before .k .given .0 .0) (c .before .before .before .before .before .before .before .before .before .before .before .before .before .before .lines .line)
+faulted : (c : tie.After-k Inv-loop μ-loop Inv-lines μ-lines) → let t = took (c .before .before) in Out (this t) (after t) (c .k .given .0 .0)
 faulted c =
-    let e = fault-is (c .before) in
-    record {
-      real = λ z. omega (arith, e .some);
-      said = S.faulted (c .before .before .before .before .before .before .before .before .before .before .before .before .before .before .before .before .before .before .args .text .now) (c .before .before .before .before .before .before .before .before .before .before .before .before .before .before .before .before .before .before .args .levels .now) (c .before .before .before .before .before .before .before .before .before .before .before .before .before .before .lines .levels) (c .before .before .before .before .before .before .before .before .before .before .before .before .before .before .lines .plan) (c .before .before .before .before .before .before .before .before .before .before .before .before .before .before .lines .line) (c .before .before .before .before .before .before .before .before .before .before .before .before .before .before .lines .at) (c .before .before .before .before .before .before .before .before .before .before .before .before .before .before .lines .inv .1) (c .before .before .before .before .before .before .before .before .before .before .before .before .find .result) (c .before .before .before .before .before .before .before .before .before .before .before .before .before .lines-test .taken) (c .before .before .before .before .before .before .before .before .before .before .before .before .find .ensures) (inner (c .before .before .before .before .before .before .before .before .before .before .before)) (c .before .before .before .before .before .before .before .before .before .before .find2 .result) (c .before .before .before .before .before .before .before .before .before .before .find2 .ensures) (c .before .before .before .before .before .before .before .before .before .read-word .result) (c .before .before .before .before .before .before .before .before .before .read-word .ensures) (restOf (slice (c .before .before .before .before .before .before .before .before .before .before .find2 .result) (c .before .before .before .before .before .before .before .before .before .before .before .before .find .result) (c .before .before .before .before .before .before .before .before .before .before .before .before .before .before .before .before .before .before .args .text .now))) (fielded (c .before .before .before .before .before .before .before) .all) (c .before .before .before .before .before .take-line .last .1 .1 .1 .1 .1 .1 .1 .1 .1 .0) (c .before .k .given .0 .0) e;
-      long = c .before .before .before .before .before .take-line .kept .1 .1 .1 .1 .1 .1 .1 .1 .1 .0 ∙ (c .before .before .before .before .before .before .before .before .before .before .before .before .before .before .lines .inv .1) .held .long;
-      above = λ i h. e .above i h ∙ (c .before .before .before .before .before .before .before .before .before .before .before .before .before .before .lines .inv .1) .held .rest i h;
-    }
+    let t = took (c .before .before) in
+    S.faulted (here (found (fields-of t))) (fields-of t .loop .inv .1) (all-read t) (gave t (c .k .given .1)) (t .take .kept .1 .1 .1 .0)
 
--- where the ways out meet
-out : (c : tie.Left-lines Inv-loop μ-loop Inv-lines μ-lines) → Ended (c .before .before .before .before .before .args .text .now) (c .before .lines .levels) (c .lines-test .levels) (c .lines-test .fault) (c .before .lines .at) ⊎ Broken (c .before .before .before .before .before .args .text .now) (c .before .before .before .before .before .args .levels .now) (c .lines-test .levels) (c .lines-test .fault) (c .before .lines .line)
+-- where they meet: each place is built again from its parts
+out : (c : tie.Left-lines Inv-loop μ-loop Inv-lines μ-lines) → Out (c .before) (c .lines-test .levels) (c .lines-test .fault)
 out c =
-    let a = (c .before .lines .inv .1) in
-    ⊎-elim (λ w. inl (record { none = w .2 ∙ c .before .lines .inv .0; done = w .0 .left; same = w .1 }))
-    (⊎-elim (λ w. inr (record { real = λ e. omega (arith, sym (w .4) ∙ e); said = rw (w .4) (unended (record { before = (record { before = (record { before = c .before; lines-test = w .0 }); find = w .1 }); if1 = w .2 })); long = rw (w .3) (a .held .long); above = rw (w .3) (a .held .rest) }))
-    (⊎-elim (λ w. inr (record { real = λ e. omega (arith, sym (w .12) ∙ e); said = rw (w .12) (unread (record { before = (record { before = (record { before = (record { before = (record { before = (record { before = (record { before = (record { before = (record { before = (record { before = (record { before = c .before; lines-test = w .0 }); find = w .1 }); if1 = w .2 }); find2 = w .3 }); read-word = w .4 }); loop = w .5 }); loop-test = w .6 }); find3 = w .7 }); read-number = w .8 }); match = w .9 }); enum-told = w .10 })); long = rw (w .11) (a .held .long); above = rw (w .11) (a .held .rest) }))
-    (λ w. inr (rw (w .14, w .15) (faulted (record { before = (record { before = (record { before = (record { before = (record { before = (record { before = (record { before = (record { before = (record { before = (record { before = (record { before = (record { before = (record { before = (record { before = c .before; lines-test = w .0 }); find = w .1 }); if1 = w .2 }); find2 = w .3 }); read-word = w .4 }); loop = w .5 }); loop-test = w .6 }); take-line-arg = w .7 }); take-line = w .8 }); levels = w .9 }); slice-known2 = w .10 }); match2 = w .11 }); k = w .12 }); known-told2 = w .13 }))))))
+    ⊎-elim (λ w. rw (w .1, w .2) (ended (record { before = c .before; lines-test = w .0 })))
+    (⊎-elim
+    (λ w.
+    let i : tie.In-lines Inv-loop μ-loop Inv-lines μ-lines = record { before = c .before; lines-test = w .0 } in
+    -- no line feed
+    rw (w .3, w .4) (unended (record { before = record { before = i; find = w .1 }; if1 = w .2 })))
+    (⊎-elim
+    (λ w.
+    let i : tie.In-lines Inv-loop μ-loop Inv-lines μ-lines = record { before = c .before; lines-test = w .0 } in
+    let f : Found = record { before = record { before = i; find = w .1 }; if1 = w .2 } in
+    let l : At-loop = record { before = record { before = f; begin = w .3 }; loop = w .4 } in
+    let r : tie.After-field-after Inv-loop μ-loop Inv-lines μ-lines = record { before = record { before = l; loop-test = w .5 }; field-after = w .6 } in
+    -- a field that is no number
+    rw (w .9, w .10) (unread (record { before = record { before = r; match = w .7 }; enum-told = w .8 })))
+    (λ w.
+    let i : tie.In-lines Inv-loop μ-loop Inv-lines μ-lines = record { before = c .before; lines-test = w .0 } in
+    let f : Found = record { before = record { before = i; find = w .1 }; if1 = w .2 } in
+    let l : At-loop = record { before = record { before = f; begin = w .3 }; loop = w .4 } in
+    let t : Took = record { before = record { before = record { before = l; loop-test = w .5 }; take-arg = w .6 }; take = w .7 } in
+    let m : tie.After-slice-known2 Inv-loop μ-loop Inv-lines μ-lines = record { before = record { before = t; levels = w .8 }; slice-known2 = w .9 } in
+    -- a fault of the line
+    rw (w .13, w .14) (faulted (record { before = record { before = m; match2 = w .10 }; k = w .11 })))))
     (c .lines-test .came)
 
-out-long : (c : tie.Left-lines Inv-loop μ-loop Inv-lines μ-lines) → length (c .lines-test .levels) ≡ length (c .before .before .before .before .before .args .levels .now)
-out-long c = ⊎-elim (λ w. rw (w .same) ((c .before .lines .inv .1) .held .long)) (λ w. w .long) (out c)
+-- ---- what the code asks for
 
 empty-plan-requires : tie.Need-empty-plan-requires Inv-loop μ-loop Inv-lines μ-lines
 empty-plan-requires c κs = tt
 
 lines-holds : tie.Need-lines-holds Inv-loop μ-loop Inv-lines μ-lines
-lines-holds c = (refl, S.begin (c .before .before .before .args .text .now) (c .before .before .before .args .levels .now) _ (c .empty-plan .ensures) (c .before .before .before .pre .2))
+lines-holds c = (refl, S.begin (c .empty-plan .ensures) (c .before .before .before .pre .2))
 
 find-requires : tie.Need-find-requires Inv-loop μ-loop Inv-lines μ-lines
-find-requires c κs = ((c .before .lines .inv .1) .inside, omega arith)
+find-requires c κs = (c .before .lines .inv .1 .inside, omega arith)
 
-find-requires-2 : tie.Need-find-requires-2 Inv-loop μ-loop Inv-lines μ-lines
-find-requires-2 c κs = S.line-in (c .before .before .before .before .before .before .before .args .text .now) (c .before .before .before .before .before .before .before .args .levels .now) (c .before .before .before .lines .levels) (c .before .before .before .lines .plan) (c .before .before .before .lines .line) (c .before .before .before .lines .at) (c .before .before .before .lines .inv .1) (c .before .find .result) (c .before .before .lines-test .taken) (c .before .find .ensures)
-
-read-word-requires : tie.Need-read-word-requires Inv-loop μ-loop Inv-lines μ-lines
-read-word-requires c κs = ((in-word c) .0, omega (arith, (in-word c) .1, S.line-in (c .before .before .before .before .before .before .before .before .args .text .now) (c .before .before .before .before .before .before .before .before .args .levels .now) (c .before .before .before .before .lines .levels) (c .before .before .before .before .lines .plan) (c .before .before .before .before .lines .line) (c .before .before .before .before .lines .at) (c .before .before .before .before .lines .inv .1) (c .before .before .find .result) (c .before .before .before .lines-test .taken) (c .before .before .find .ensures) .1))
+begin-requires : tie.Need-begin-requires Inv-loop μ-loop Inv-lines μ-lines
+begin-requires c κs = S.line-in (here c)
 
 loop-holds : tie.Need-loop-holds Inv-loop μ-loop Inv-lines μ-lines
-loop-holds c = record { none = c .before .before .before .before .before .lines .inv .0; past = omega arith; inside = in-word (c .before) .1; few = omega arith; seen = []; fields = record { count = refl; size = refl; at = λ k _. all-same (pos 0) 4 k }; rest = W.scan-start _ }
+loop-holds c = (line-of (c .before) .lines .inv .0, rw (c .begin .ensures) (S.scan-begin (here (c .before))))
 
-add-find : tie.Need-add-find Inv-loop μ-loop Inv-lines μ-lines
-add-find c = omega arith
-
-find-requires-3 : tie.Need-find-requires-3 Inv-loop μ-loop Inv-lines μ-lines
-find-requires-3 c κs = (omega (arith, c .loop-test .taken), S.line-in (c .before .before .before .before .before .before .before .before .before .before .before .args .text .now) (c .before .before .before .before .before .before .before .before .before .before .before .args .levels .now) (c .before .before .before .before .before .before .before .lines .levels) (c .before .before .before .before .before .before .before .lines .plan) (c .before .before .before .before .before .before .before .lines .line) (c .before .before .before .before .before .before .before .lines .at) (c .before .before .before .before .before .before .before .lines .inv .1) (c .before .before .before .before .before .find .result) (c .before .before .before .before .before .before .lines-test .taken) (c .before .before .before .before .before .find .ensures) .1)
-
-add-read-number : tie.Need-add-read-number Inv-loop μ-loop Inv-lines μ-lines
-add-read-number c = omega arith
-
-read-number-requires : tie.Need-read-number-requires Inv-loop μ-loop Inv-lines μ-lines
-read-number-requires c κs = (field c .0, omega (arith, field c .1, S.line-in (c .before .before .before .before .before .before .before .before .before .before .before .before .args .text .now) (c .before .before .before .before .before .before .before .before .before .before .before .before .args .levels .now) (c .before .before .before .before .before .before .before .before .lines .levels) (c .before .before .before .before .before .before .before .before .lines .plan) (c .before .before .before .before .before .before .before .before .lines .line) (c .before .before .before .before .before .before .before .before .lines .at) (c .before .before .before .before .before .before .before .before .lines .inv .1) (c .before .before .before .before .before .before .find .result) (c .before .before .before .before .before .before .before .lines-test .taken) (c .before .before .before .before .before .before .find .ensures) .1))
+field-after-requires : tie.Need-field-after-requires Inv-loop μ-loop Inv-lines μ-lines
+field-after-requires c κs = (c .loop-test .taken, S.line-in (here (found (c .before))) .1)
 
 enum-known-v : tie.Need-enum-known-v Inv-loop μ-loop Inv-lines μ-lines
 enum-known-v c = search needs
 
 with-number-requires : tie.Need-with-number-requires Inv-loop μ-loop Inv-lines μ-lines
-with-number-requires c κs = (omega (arith, c .before .before .before .before .before .before .loop .inv .few, c .before .before .before .before .before .loop-test .taken, S.line-in (c .before .before .before .before .before .before .before .before .before .before .before .before .before .before .before .before .args .text .now) (c .before .before .before .before .before .before .before .before .before .before .before .before .before .before .before .before .args .levels .now) (c .before .before .before .before .before .before .before .before .before .before .before .before .lines .levels) (c .before .before .before .before .before .before .before .before .before .before .before .before .lines .plan) (c .before .before .before .before .before .before .before .before .before .before .before .before .lines .line) (c .before .before .before .before .before .before .before .before .before .before .before .before .lines .at) (c .before .before .before .before .before .before .before .before .before .before .before .before .lines .inv .1) (c .before .before .before .before .before .before .before .before .before .before .find .result) (c .before .before .before .before .before .before .before .before .before .before .before .lines-test .taken) (c .before .before .before .before .before .before .before .before .before .before .find .ensures) .1, c .before .before .before .before .before .before .before .before .before .before .before .before .before .before .before .before .pre .0), c .before .before .before .before .before .before .loop .inv .fields .size)
+with-number-requires c κs =
+    let l = loop-of (c .before) in
+    S.room-more (here (found l)) (l .loop .inv .1) (in-loop (c .before)) (short (line-of (found l)))
+
+loop-less : tie.Need-loop-less Inv-loop μ-loop Inv-lines μ-lines
+loop-less c =
+    let v = c .before .before in
+    let l = loop-of v in
+    omega (arith, S.field-in (here (found l)) (l .loop .inv .1) (in-loop v) (field v))
+
+loop-again : tie.Need-loop-again Inv-loop μ-loop Inv-lines μ-lines
+loop-again c =
+    let v = c .before .before in
+    let l = loop-of v in
+    let more = S.scan-more (here (found l)) (l .loop .inv .1) (in-loop v) (field v) in
+    (l .loop .inv .0, rw (c .with-number .ensures, toZ-ofZ (fits (c .before))) more)
 
 enum-told : tie.Need-enum-told Inv-loop μ-loop Inv-lines μ-lines
 enum-told c = search needs
 
-loop-less : tie.Need-loop-less Inv-loop μ-loop Inv-lines μ-lines
-loop-less c = omega (arith, field (c .before .before .before .before .before), c .before .before .before .before .before .before .loop-test .taken)
-
-loop-again : tie.Need-loop-again Inv-loop μ-loop Inv-lines μ-lines
-loop-again c =
-    let l = c .before .before .before .before .before .before .before .loop in
-    let g = field (c .before .before .before .before .before) in
-    let v = c .before .before .v .given .0 .0 in
-    let more : Numbers (l .inv .seen ++ (v ∷ [])) (c .with-number .result) = rw (toZ-ofZ (fits (c .before))) at (c .with-number .ensures (l .inv .seen) (l .inv .fields)) in
-    record {
-      none = l .inv .none;
-      past = omega (arith, l .inv .past, g .0);
-      inside = g .1;
-      few = omega (arith, more .count, l .inv .fields .count, l .inv .few, g .0, length-append (l .inv .seen) (v ∷ []));
-      seen = l .inv .seen ++ (v ∷ []);
-      fields = more;
-      rest = W.scan-good (c .before .before .before .before .before .before .before .before .before .before .before .before .before .before .before .before .before .args .text .now) (l .p) (c .before .before .before .before .before .before .before .before .before .before .before .find .result) (c .before .before .before .before .before .find3 .result) (c .before .before .before .before .before .before .loop-test .taken) (S.line-in (c .before .before .before .before .before .before .before .before .before .before .before .before .before .before .before .before .before .args .text .now) (c .before .before .before .before .before .before .before .before .before .before .before .before .before .before .before .before .before .args .levels .now) (c .before .before .before .before .before .before .before .before .before .before .before .before .before .lines .levels) (c .before .before .before .before .before .before .before .before .before .before .before .before .before .lines .plan) (c .before .before .before .before .before .before .before .before .before .before .before .before .before .lines .line) (c .before .before .before .before .before .before .before .before .before .before .before .before .before .lines .at) (c .before .before .before .before .before .before .before .before .before .before .before .before .before .lines .inv .1) (c .before .before .before .before .before .before .before .before .before .before .before .find .result) (c .before .before .before .before .before .before .before .before .before .before .before .before .lines-test .taken) (c .before .before .before .before .before .before .before .before .before .before .before .find .ensures) .1) (c .before .before .before .before .before .find3 .ensures) (l .inv .seen) (numbers (after TAB (slice (c .before .before .before .before .before .before .before .before .before .find2 .result) (c .before .before .before .before .before .before .before .before .before .before .before .find .result) (c .before .before .before .before .before .before .before .before .before .before .before .before .before .before .before .before .before .args .text .now)))) (l .inv .rest) v (sym (c .before .before .before .before .read-number .ensures .0) ∙ ap numberAs (c .before .before .v .given .1));
-    }
-
-take-line-requires : tie.Need-take-line-requires Inv-loop μ-loop Inv-lines μ-lines
-take-line-requires c κs = (fielded (c .before), read (c .before), (c .before .before .before .before .before .before .before .before .lines .inv .1) .events, (c .before .before .before .before .before .before .before .before .lines .inv .1) .used, omega (arith, (c .before .before .before .before .before .before .before .before .lines .inv .1) .held .long, c .before .before .before .before .before .before .before .before .before .before .before .before .pre .1))
+take-requires : tie.Need-take-requires Inv-loop μ-loop Inv-lines μ-lines
+take-requires c κs =
+    let l = c .before .before in
+    let a = line-of (found l) in
+    let w = a .lines .inv .1 in
+    (S.whole (here (found l)) (l .loop .inv .1) (c .before .loop-test .left), w .room, omega (arith, w .held .long, long a))
 
 enum-known-k : tie.Need-enum-known-k Inv-loop μ-loop Inv-lines μ-lines
 enum-known-k c = search needs
@@ -215,69 +249,48 @@ enum-known-r : tie.Need-enum-known-r Inv-loop μ-loop Inv-lines μ-lines
 enum-known-r c = search needs
 
 mul-r : tie.Need-mul-r Inv-loop μ-loop Inv-lines μ-lines
-mul-r c = omega (arith, entry c .few)
+mul-r c = omega (arith, entry (c .before) .few)
 
 element-set-from-r : tie.Need-element-set-from-r Inv-loop μ-loop Inv-lines μ-lines
-element-set-from-r c = entry c .few
+element-set-from-r c = entry (c .before) .few
 
 add-plan : tie.Need-add-plan Inv-loop μ-loop Inv-lines μ-lines
-add-plan c = omega (arith, entry c .few)
+add-plan c = omega (arith, entry (c .before) .few)
 
-cast-plan : tie.Need-cast-plan Inv-loop μ-loop Inv-lines μ-lines
-cast-plan c = omega (arith, small (c .before))
+from-u16-requires : tie.Need-from-u16-requires Inv-loop μ-loop Inv-lines μ-lines
+from-u16-requires c κs = tt
 
 add-plan-2 : tie.Need-add-plan-2 Inv-loop μ-loop Inv-lines μ-lines
-add-plan-2 c = omega (arith, small (c .before))
+add-plan-2 c = omega (arith, entered c .room .levels)
 
-add-line : tie.Need-add-line Inv-loop μ-loop Inv-lines μ-lines
-add-line c = omega (arith, S.line-in (c .before .before .before .before .before .before .before .before .before .before .before .before .before .before .before .before .args .text .now) (c .before .before .before .before .before .before .before .before .before .before .before .before .before .before .before .before .args .levels .now) (c .before .before .before .before .before .before .before .before .before .before .before .before .lines .levels) (c .before .before .before .before .before .before .before .before .before .before .before .before .lines .plan) (c .before .before .before .before .before .before .before .before .before .before .before .before .lines .line) (c .before .before .before .before .before .before .before .before .before .before .before .before .lines .at) (c .before .before .before .before .before .before .before .before .before .before .before .before .lines .inv .1) (c .before .before .before .before .before .before .before .before .before .before .find .result) (c .before .before .before .before .before .before .before .before .before .before .before .lines-test .taken) (c .before .before .before .before .before .before .before .before .before .before .find .ensures), (c .before .before .before .before .before .before .before .before .before .before .before .before .lines .inv .1) .far, c .before .before .before .before .before .before .before .before .before .before .before .before .before .before .before .before .pre .0)
+add-number : tie.Need-add-number Inv-loop μ-loop Inv-lines μ-lines
+add-number c = let f = found (fields-of (took (c .before))) in omega (arith, S.step-in (here f) .0, short (line-of f))
 
 add-at : tie.Need-add-at Inv-loop μ-loop Inv-lines μ-lines
-add-at c = omega (arith, S.line-in (c .before .before .before .before .before .before .before .before .before .before .before .before .before .before .before .before .args .text .now) (c .before .before .before .before .before .before .before .before .before .before .before .before .before .before .before .before .args .levels .now) (c .before .before .before .before .before .before .before .before .before .before .before .before .lines .levels) (c .before .before .before .before .before .before .before .before .before .before .before .before .lines .plan) (c .before .before .before .before .before .before .before .before .before .before .before .before .lines .line) (c .before .before .before .before .before .before .before .before .before .before .before .before .lines .at) (c .before .before .before .before .before .before .before .before .before .before .before .before .lines .inv .1) (c .before .before .before .before .before .before .before .before .before .before .find .result) (c .before .before .before .before .before .before .before .before .before .before .before .lines-test .taken) (c .before .before .before .before .before .before .before .before .before .before .find .ensures), c .before .before .before .before .before .before .before .before .before .before .before .before .before .before .before .before .pre .0)
+add-at c = let f = found (fields-of (took (c .before))) in omega (arith, S.line-in (here f) .1, short (line-of f))
 
 lines-less : tie.Need-lines-less Inv-loop μ-loop Inv-lines μ-lines
-lines-less c = omega (arith, S.line-in (c .before .before .before .before .before .before .before .before .before .before .before .before .before .before .before .before .args .text .now) (c .before .before .before .before .before .before .before .before .before .before .before .before .before .before .before .before .args .levels .now) (c .before .before .before .before .before .before .before .before .before .before .before .before .lines .levels) (c .before .before .before .before .before .before .before .before .before .before .before .before .lines .plan) (c .before .before .before .before .before .before .before .before .before .before .before .before .lines .line) (c .before .before .before .before .before .before .before .before .before .before .before .before .lines .at) (c .before .before .before .before .before .before .before .before .before .before .before .before .lines .inv .1) (c .before .before .before .before .before .before .before .before .before .before .find .result) (c .before .before .before .before .before .before .before .before .before .before .before .lines-test .taken) (c .before .before .before .before .before .before .before .before .before .before .find .ensures), inner (c .before .before .before .before .before .before .before .before .before))
+lines-less c = omega (arith, S.step-in (here (found (fields-of (took (c .before))))) .1)
 
 lines-again : tie.Need-lines-again Inv-loop μ-loop Inv-lines μ-lines
 lines-again c = (
-  c .before .before .before .before .before .before .loop .inv .none,
+  fields-of (took (c .before)) .loop .inv .0,
   ⊎-elim
-      (λ x. rw (x .3) (headed (record { before = (record { before = (record { before = c .before; match2 = x .0 }); n = x .1 }); known-told3 = x .2 })))
-      (λ x. rw (x .4) (entered (record { before = (record { before = (record { before = c .before; match2 = x .0 }); r = x .1 }); known-told4 = x .2 })))
+      (λ x. rw (x .3) (headed (record { before = record { before = c .before; match2 = x .0 }; n = x .1 })))
+      (λ x.
+      let e : tie.After-r Inv-loop μ-loop Inv-lines μ-lines = record { before = record { before = c .before; match2 = x .0 }; r = x .1 } in
+      rw (x .4) (entered (record { before = record { before = e; known-told4 = x .2 }; from-u16 = x .3 })))
       (c .match2 .came),
 )
 
+verdict-of-requires : tie.Need-verdict-of-requires Inv-loop μ-loop Inv-lines μ-lines
+verdict-of-requires c κs = tt
+
 same-length : tie.Need-same-length Inv-loop μ-loop Inv-lines μ-lines
-same-length c = out-long (c .before .before)
+same-length c = out (c .before) .long
 
 returns : tie.Need-returns Inv-loop μ-loop Inv-lines μ-lines
-returns c =
-    let a = c .before .before .before .lines in
-    ⊎-elim
-    (λ w. S.walked-fault (c .before .before .before .before .before .before .before .args .text .now) (c .before .before .before .before .before .before .before .args .levels .now) _ _ 2 1 (S.nothing-read (c .before .before .before .before .before .before .before .args .text .now) (c .before .before .before .before .before .before .before .args .levels .now) (c .before .before .before .lines .levels) (c .before .before .before .lines .plan) (c .before .before .before .lines .line) (c .before .before .before .lines .at) (c .before .before .before .lines .inv .1) (w .done) (c .if3 .taken)) (rw (w .same) (a .inv .1 .held .rest)))
-    (λ w. absurd (w .real (c .before .if2 .taken)))
-    (out (c .before .before))
-
-same-length-2 : tie.Need-same-length-2 Inv-loop μ-loop Inv-lines μ-lines
-same-length-2 c = out-long (c .before .before)
-
-returns-2 : tie.Need-returns-2 Inv-loop μ-loop Inv-lines μ-lines
-returns-2 c =
-    let a = c .before .before .before .lines in
-    ⊎-elim
-    (λ w. rw (w .same) (S.walked-plan (c .before .before .before .before .before .before .before .args .text .now) (c .before .before .before .before .before .before .before .args .levels .now) (a .levels) (a .plan) (a .inv .1 .p) (S.all-read (c .before .before .before .before .before .before .before .args .text .now) (c .before .before .before .before .before .before .before .args .levels .now) (c .before .before .before .lines .levels) (c .before .before .before .lines .plan) (c .before .before .before .lines .line) (c .before .before .before .lines .at) (c .before .before .before .lines .inv .1) (w .done) (c .if3 .left)) (a .inv .1 .holds) (a .inv .1 .held)))
-    (λ w. absurd (w .real (c .before .if2 .taken)))
-    (out (c .before .before))
-
-same-length-3 : tie.Need-same-length-3 Inv-loop μ-loop Inv-lines μ-lines
-same-length-3 c = out-long (c .before)
-
-returns-3 : tie.Need-returns-3 Inv-loop μ-loop Inv-lines μ-lines
-returns-3 c =
-    ⊎-elim
-    (λ w. absurd (c .if2 .left (w .none)))
-    (λ w. S.walked-fault (c .before .before .before .before .before .before .args .text .now) (c .before .before .before .before .before .before .args .levels .now) _ _ _ _ (w .said) (w .above))
-    (out (c .before))
+returns c = rw (c .verdict-of .ensures) (out (c .before) .walked)
 
 pub read-lines-spec : {M : Type 1} → statement M
 read-lines-spec =
@@ -290,34 +303,27 @@ read-lines-spec =
     empty-plan-requires
     lines-holds
     find-requires
-    find-requires-2
-    read-word-requires
+    begin-requires
     loop-holds
-    add-find
-    find-requires-3
-    add-read-number
-    read-number-requires
+    field-after-requires
     enum-known-v
     with-number-requires
-    enum-told
     loop-less
     loop-again
-    take-line-requires
+    enum-told
+    take-requires
     enum-known-k
     enum-known-n
     enum-known-r
     mul-r
     element-set-from-r
     add-plan
-    cast-plan
+    from-u16-requires
     add-plan-2
-    add-line
+    add-number
     add-at
     lines-less
     lines-again
+    verdict-of-requires
     same-length
-    returns
-    same-length-2
-    returns-2
-    same-length-3
-    returns-3)
+    returns)
