@@ -10,7 +10,8 @@ use lib.Signed.{leZ, _≤ℤ_}
 use Rattle.ticks.proofs.Ticks.{ticks, neg, sum}
 use Rattle.meaning.specs.Plan.{Within, MOST-END, MOST-HORIZON}
 use Rattle.meaning.specs.Distances.{added, Closed, Keeps, Adds, Below, horizonOnly}
-use Rattle.meaning.proofs.Distances.{adds-closed, adds-below, adds-keeps, adds-old, adds-new, start-closed, start-below, start-means, means-start, same-set, Horizon}
+use Rattle.meaning.proofs.Distances.{adds-closed, adds-below, adds-keeps, adds-old, adds-new}
+use Rattle.meaning.proofs.Distances.{start-closed, start-below, start-means, means-start, same-set, Horizon}
 use Rattle.distances.specs.Matrix.{STRIDE, at, meeting, Net, Changed, Started, Adding, Added, Narrowing, Cut, Narrowed}
 
 -- ---- a matrix is as its entries are
@@ -69,7 +70,9 @@ module _ {n a b : ℕ} {w : ℤ} {d d′ : List ℤ} {r : Bool} (asked : Adding 
   added-means e t =
       let c = asked .net .closed in
       let s = changed-adds a b w (h .taken e) in
-      ((λ k. (adds-old c (asked .from) (asked .to) s k, adds-new c (asked .from) (asked .to) s k)), (λ k. adds-keeps c (asked .from) (asked .to) s (k .0) (k .1)))
+      let la = asked .from in
+      let lb = asked .to in
+      ((λ k. (adds-old c la lb s k, adds-new c la lb s k)), (λ k. adds-keeps c la lb s (k .0) (k .1)))
 
 -- ---- a question
 -- the run meets what is left
@@ -90,7 +93,8 @@ met D a b lo hi = go (leZ lo hi) (leZ lo (D a b)) (leZ (negℤ (D b a)) hi) refl
 missed : (D : ℕ → ℕ → ℤ) (a b : ℕ) (lo hi x : ℤ) → meeting D a b lo hi ≡ false → x ≤ℤ D a b → negℤ (D b a) ≤ℤ x → Within lo x hi → ⊥
 missed D a b lo hi x = go (leZ lo hi) (leZ lo (D a b)) (leZ (negℤ (D b a)) hi) refl refl refl
   where
-    go : (u v z : Bool) → leZ lo hi ≡ u → leZ lo (D a b) ≡ v → leZ (negℤ (D b a)) hi ≡ z → (u && (v && z)) ≡ false → x ≤ℤ D a b → negℤ (D b a) ≤ℤ x → Within lo x hi → ⊥
+    go : (u v z : Bool) → leZ lo hi ≡ u → leZ lo (D a b) ≡ v → leZ (negℤ (D b a)) hi ≡ z → (u && (v && z)) ≡ false
+        → x ≤ℤ D a b → negℤ (D b a) ≤ℤ x → Within lo x hi → ⊥
     go true true true e f g m p q k = absurd (true≢false m)
     go true true false e f g m p q k = omega (ticks, neg (D b a), k .below)
     go true false z e f g m p q k = omega (ticks, k .above)
@@ -106,7 +110,13 @@ module _ {n a b : ℕ} {lo hi : ℤ} {d : List ℤ} (asked : Narrowing n a b lo 
 
   pub upper-asked : Adding n a b hi d
   upper-asked =
-      record { horizon = asked .horizon; net = asked .net; from = asked .from; to = asked .to; weight = record { above = omega (ticks, m .some, asked .low); below = asked .high } }
+      record {
+        horizon = asked .horizon;
+        net = asked .net;
+        from = asked .from;
+        to = asked .to;
+        weight = record { above = omega (ticks, m .some, asked .low); below = asked .high };
+      }
 
   pub lower-asked : {d₁ : List ℤ} → Changed n n d d₁ (added (at d) a b hi) → Adding n b a (negℤ lo) d₁
   lower-asked r =
@@ -147,4 +157,5 @@ module _ {n a b : ℕ} {lo hi : ℤ} {d d′ : List ℤ} {r : Bool} (asked : Nar
 
   pub narrowed-none : r ≡ false → (t : ℕ → ℤ) → Keeps n (at d) t → Within lo (t b -ℤ t a) hi → ⊥
   narrowed-none e t k =
-      missed (at d) a b lo hi (t b -ℤ t a) (sym (h .answer) ∙ e) (omega (ticks, k .kept (asked .from) (asked .to))) (omega (ticks, k .kept (asked .to) (asked .from), neg (at d b a), sum (t b) (negℤ (t a)), neg (t a)))
+      missed (at d) a b lo hi (t b -ℤ t a) (sym (h .answer) ∙ e) (omega (ticks, k .kept (asked .from) (asked .to)))
+      (omega (ticks, k .kept (asked .to) (asked .from), neg (at d b a), sum (t b) (negℤ (t a)), neg (t a)))
