@@ -1,2 +1,3 @@
--- What is true of every reply of `plan_c`.
+-- How the numbers are told, and that any two replies are equal.
+pub mod Told
 pub mod One

@@ -1,7 +1,7 @@
 -- `plan_c::plan_number` meets its contract: by the verdict.
-use mathlib.Core.Path.{sym, ap}
 use Rattle.reader.specs.Heard.{number}
 use borrow.Author.Needs.{needs}
+use Rattle.plan_c.proofs.Told.{by-verdict}
 use Rattle.plan_c.proofs.plan_number.Statement.{statement}
 use Rattle.plan_c.proofs.plan_number.Tie as tie
 
@@ -18,13 +18,16 @@ same-length : tie.Need-same-length
 same-length c = search needs
 
 returns : tie.Need-returns
-returns c = record { answer = c .before .before .before .before .read .result; read = c .before .before .before .before .read .ensures; got = sym (ap number (c .enum-told .given .1)) }
+returns c = let asked = c .before .before .before .before in by-verdict number (asked .read .result) (asked .read .ensures) (c .enum-told .given .1)
 
 same-length-2 : tie.Need-same-length-2
 same-length-2 c = search needs
 
 returns-2 : tie.Need-returns-2
-returns-2 c = record { answer = c .before .before .before .before .before .read .result; read = c .before .before .before .before .before .read .ensures; got = sym (ap number (c .before .verdict .given .1)) }
+returns-2 c =
+    let refused = c .before in
+    let asked = refused .before .before .before .before in
+    by-verdict number (asked .read .result) (asked .read .ensures) (refused .verdict .given .1)
 
 pub plan-number-spec : {M : Type 1} → statement M
 plan-number-spec =
