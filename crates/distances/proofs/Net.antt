@@ -12,7 +12,7 @@ use Rattle.meaning.specs.Plan.{Within, MOST-END, MOST-HORIZON}
 use Rattle.meaning.specs.Distances.{added, Closed, Keeps, Adds, Below, horizonOnly}
 use Rattle.meaning.proofs.Distances.{adds-closed, adds-below, adds-keeps, adds-old, adds-new}
 use Rattle.meaning.proofs.Distances.{start-closed, start-below, start-means, means-start, same-set, Horizon}
-use Rattle.distances.specs.Matrix.{STRIDE, at, meeting, Net, Changed, Started, Adding, Added, Narrowing, Cut, Narrowed}
+use Rattle.distances.specs.Matrix.{STRIDE, at, meeting, Net, Changed, Started, Adding, Narrowing, Cut, Narrowed}
 
 -- ---- a matrix is as its entries are
 same-closed : {n : ℕ} {D E : ℕ → ℕ → ℤ} → Closed n D → ((i j : ℕ) → i < n → j < n → E i j ≡ D i j) → Closed n E
@@ -45,7 +45,7 @@ started-means {n} {H} {d} s some few =
     ((λ k. start-means some (same-set all k)), (λ k. same-set (λ i j p q. sym (all i j p q)) (means-start k)))
 
 -- ---- one more bound
-pub changed-adds : {n : ℕ} {d d′ : List ℤ} (a b : ℕ) (w : ℤ) → Changed n n d d′ (added (at d) a b w) → Adds n a b w (at d) (at d′)
+changed-adds : {n : ℕ} {d d′ : List ℤ} (a b : ℕ) (w : ℤ) → Changed n n d d′ (added (at d) a b w) → Adds n a b w (at d) (at d′)
 changed-adds a b w r = record { at = λ {i} {j} p q. r .done i j p q }
 
 -- closed distances with no entry above H, written over such a matrix, give such a matrix
@@ -64,15 +64,6 @@ pub changed-net : {n H : ℕ} {d d′ : List ℤ} (a b : ℕ) (w : ℤ) → Net 
 changed-net {n} {d = d} a b w net la lb ok r =
     let e : Adds n a b w (at d) (added (at d) a b w) = record { at = λ p q. refl } in
     written-net net r (adds-closed (net .closed) la lb e ok) (adds-below (net .closed) la lb e (net .below))
-
-module _ {n a b : ℕ} {w : ℤ} {d d′ : List ℤ} {r : Bool} (asked : Adding n a b w d) (h : Added n a b w d d′ r) where
-  pub added-means : r ≡ true → (t : ℕ → ℤ) → Keeps n (at d′) t ↔ (Keeps n (at d) t × (t b ≤ℤ (t a +ℤ w)))
-  added-means e t =
-      let c = asked .net .closed in
-      let s = changed-adds a b w (h .taken e) in
-      let la = asked .from in
-      let lb = asked .to in
-      ((λ k. (adds-old c la lb s k, adds-new c la lb s k)), (λ k. adds-keeps c la lb s (k .0) (k .1)))
 
 -- ---- a question
 -- the run meets what is left
