@@ -1,3 +1,2 @@
--- How the numbers are told, and that any two replies are equal.
-pub mod Told
+-- What is true of every reply of `plan_c`.
 pub mod One

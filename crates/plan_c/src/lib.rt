@@ -1,5 +1,6 @@
 // The reader for Rust and C, one number a call.
 ghost use mathlib.Core.Path.{_≡_};
+ghost use Rattle.reader.specs.Heard.{number, place};
 ghost use Rattle.plan_c.specs.Asked.{Asked, numberIn, placeIn, headOf, headIn, fieldOf, fieldIn};
 use plan::Plan;
 use plan::Record;
@@ -8,29 +9,41 @@ use scope::MOST_RECORDS;
 use scope::SOLVED;
 
 // The outcome's number; that of a solved plan for a plan.
+fn number_of(v: Verdict) -> u8
+    ensures { λ r. ⌜ r ≡ number v ⌝ }
+{
+    match v {
+        Verdict::Taken => SOLVED,
+        Verdict::Refused(k, _) => k,
+    }
+}
+
 #[no_mangle]
 pub extern "C" fn plan_number(text: &[u8], levels: &mut [u8]) -> u8
     ensures { λ r. ⌜ Asked (now (text .entry)) (now (levels .entry)) (now (levels .exit)) numberIn r ⌝ }
 {
     let answer = reader::read(text, levels);
     let verdict = answer.verdict;
-    match verdict {
-        Verdict::Taken => SOLVED,
-        Verdict::Refused(k, _) => k,
+    number_of(verdict)
+}
+
+// The outcome's place: the line of a refusal; 0 for a plan.
+fn line_of(v: Verdict) -> usize
+    ensures { λ r. ⌜ r ≡ place v ⌝ }
+{
+    match v {
+        Verdict::Taken => 0,
+        Verdict::Refused(_, line) => line,
     }
 }
 
-// The outcome's place; 0 for a plan.
 #[no_mangle]
 pub extern "C" fn plan_place(text: &[u8], levels: &mut [u8]) -> usize
     ensures { λ r. ⌜ Asked (now (text .entry)) (now (levels .entry)) (now (levels .exit)) placeIn r ⌝ }
 {
     let answer = reader::read(text, levels);
     let verdict = answer.verdict;
-    match verdict {
-        Verdict::Taken => 0,
-        Verdict::Refused(_, line) => line,
-    }
+    line_of(verdict)
 }
 
 // 0 events, 1 horizon, 2 records, 3 levels used; else 0.

@@ -1,10 +1,20 @@
 -- `plan_c::field_of` meets its contract: each arm by its key.
+use mathlib.Core.Path.{_≡_, ap, _∙_}
+use Prim.Native.Nat.{ℕ, _^_, _<_}
+use lib.IntN.{ℤ, pos}
+use lib.Signed.{mag}
+use mir.Syntax.{w32}
+use mir.Val.{hbits, toZ, ofZ}
 use mir.Facts.{toZ-ofZ}
 use borrow.Author.Needs.{needs}
 use borrow.Author.Tests.{ne-eqb}
-use Rattle.plan_c.proofs.Told.{whole}
+use Rattle.ticks.proofs.Ticks.{back}
 use Rattle.plan_c.proofs.field_of.Statement.{statement}
 use Rattle.plan_c.proofs.field_of.Tie as tie
+
+-- a field without a sign that two casts handed on
+whole : {n m : ℕ} (z : ℤ) → mag z < 2 ^ hbits w32 → z ≡ pos n → n ≡ m → toZ w32 (ofZ w32 z) ≡ pos m
+whole z fits e f = back w32 z fits ∙ e ∙ ap pos f
 
 -- ---- the events
 
