@@ -14,50 +14,40 @@ pub fn find(s: &[u8], at: usize, end: usize, b: u8) -> usize
     requires { ⌜ (at ≤ end) × (end ≤ length (now s)) ⌝ }
     ensures { λ r. ⌜ r ≡ at + until b (slice at end (now (s .entry))) ⌝ }
 {
-    let mut i = at;
-    while i < end {
-        if s[i] == b {
-            return i;
-        }
-        i += 1;
-    }
-    i
+    bytes::scan::find(s, at, end, b)
 }
+
+// The digits of a number are 1 to 7.
+const MOST_DIGITS: usize = 7;
 
 // What a run of digits says: its value, or the place where reading stopped.
 enum Digits {
-    Value(u32),
+    Value(usize),
     Stopped(usize),
 }
 
-// The value of at most 7 digits.
+// The value of at most that many digits.
 fn digit_run(s: &[u8], at: usize, end: usize) -> Digits
     requires { ⌜ (at ≤ end) × (end ≤ length (now s)) × (end ≤ at + 7) ⌝ }
     ensures { λ r. ⌜ (digitsAs r ≡ runFrom 0 (slice at end (now (s .entry)))) × (digitsPlace end r ≡ at + runStop (slice at end (now (s .entry)))) ⌝ }
 {
-    let mut v: u32 = 0;
+    let mut v = 0;
     let mut i = at;
     while i < end {
         let b = s[i];
-        if b < 48 {
+        if b < b'0' {
             return Digits::Stopped(i);
         }
-        if 57 < b {
+        if b'9' < b {
             return Digits::Stopped(i);
         }
-        v = v * 10 + wide(b - 48);
+        v = v * 10 + widths::from_u8(b - b'0');
         i += 1;
     }
     Digits::Value(v)
 }
 
-fn wide(x: u8) -> u32
-    ensures { λ r. ⌜ r ≡ x ⌝ }
-{
-    x as u32
-}
-
-// 1 to 7 digits, with no leading zero except in 0 itself.
+// The digits of a number, with no leading zero except in 0 itself.
 fn read_digits(s: &[u8], at: usize, end: usize) -> Digits
     requires { ⌜ (at ≤ end) × (end ≤ length (now s)) ⌝ }
     ensures { λ r. ⌜ (digitsAs r ≡ digitsOf (slice at end (now (s .entry)))) × (digitsPlace end r ≡ at + digitsStop (slice at end (now (s .entry)))) ⌝ }
@@ -66,10 +56,10 @@ fn read_digits(s: &[u8], at: usize, end: usize) -> Digits
     if n < 1 {
         return Digits::Stopped(at);
     }
-    if 7 < n {
-        return Digits::Stopped(at + 7);
+    if MOST_DIGITS < n {
+        return Digits::Stopped(at + MOST_DIGITS);
     }
-    if s[at] == 48 {
+    if s[at] == b'0' {
         if 1 < n {
             return Digits::Stopped(at + 1);
         }
@@ -90,20 +80,20 @@ pub fn read_number(s: &[u8], at: usize, end: usize) -> Number
     if at == end {
         return Number::Stopped(at);
     }
-    if s[at] == 45 {
+    if s[at] == b'-' {
         match read_digits(s, at + 1, end) {
             Digits::Value(v) => {
                 if v == 0 {
                     Number::Stopped(at + 1)
                 } else {
-                    Number::Value(ticks::minus(v as i32))
+                    Number::Value(ticks::minus(widths::to_i32(v)))
                 }
             }
             Digits::Stopped(p) => Number::Stopped(p),
         }
     } else {
         match read_digits(s, at, end) {
-            Digits::Value(v) => Number::Value(v as i32),
+            Digits::Value(v) => Number::Value(widths::to_i32(v)),
             Digits::Stopped(p) => Number::Stopped(p),
         }
     }

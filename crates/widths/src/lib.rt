@@ -6,71 +6,79 @@ ghost use lib.IntN.{pos, natAbs};
 ghost use lib.Signed.{nonNeg};
 
 // Up to `usize`, where each fits.
-pub fn from_u8(x: u8) -> usize
-    ensures { λ r. ⌜ r ≡ x ⌝ }
+pub fn from_u8(byte: u8) -> usize
+    ensures { λ r. ⌜ r ≡ byte ⌝ }
 {
-    x as usize
+    byte as usize
 }
 
-pub fn from_u16(x: u16) -> usize
-    ensures { λ r. ⌜ r ≡ x ⌝ }
+pub fn from_u16(short: u16) -> usize
+    ensures { λ r. ⌜ r ≡ short ⌝ }
 {
-    x as usize
+    short as usize
 }
 
-pub fn from_u32(x: u32) -> usize
-    ensures { λ r. ⌜ r ≡ x ⌝ }
+pub fn from_u32(word: u32) -> usize
+    ensures { λ r. ⌜ r ≡ word ⌝ }
 {
-    x as usize
+    word as usize
 }
 
 // Down from `usize`, for a number that fits.
-pub fn to_u8(x: usize) -> u8
-    requires { ⌜ x < 256 ⌝ }
-    ensures { λ r. ⌜ r ≡ x ⌝ }
+pub fn to_u8(n: usize) -> u8
+    requires { ⌜ n < 256 ⌝ }
+    ensures { λ r. ⌜ r ≡ n ⌝ }
 {
-    x as u8
+    n as u8
 }
 
-pub fn to_u16(x: usize) -> u16
-    requires { ⌜ x < 65536 ⌝ }
-    ensures { λ r. ⌜ r ≡ x ⌝ }
+pub fn to_u16(n: usize) -> u16
+    requires { ⌜ n < 65536 ⌝ }
+    ensures { λ r. ⌜ r ≡ n ⌝ }
 {
-    x as u16
+    n as u16
 }
 
-pub fn to_u32(x: usize) -> u32
-    requires { ⌜ x < 4294967296 ⌝ }
-    ensures { λ r. ⌜ r ≡ x ⌝ }
+pub fn to_u32(n: usize) -> u32
+    requires { ⌜ n < 4294967296 ⌝ }
+    ensures { λ r. ⌜ r ≡ n ⌝ }
 {
-    x as u32
+    n as u32
 }
 
 // A number without a sign as one with a sign, and back.
-pub fn to_i32(x: usize) -> i32
-    requires { ⌜ x < 2147483648 ⌝ }
-    ensures { λ r. ⌜ r ≡ pos x ⌝ }
+pub fn to_i32(n: usize) -> i32
+    requires { ⌜ n < 2147483648 ⌝ }
+    ensures { λ r. ⌜ r ≡ pos n ⌝ }
 {
-    x as i32
+    n as i32
 }
 
-pub fn to_i64(x: usize) -> i64
-    requires { ⌜ x < 9223372036854775808 ⌝ }
-    ensures { λ r. ⌜ r ≡ pos x ⌝ }
+pub fn to_i64(n: usize) -> i64
+    requires { ⌜ n < 9223372036854775808 ⌝ }
+    ensures { λ r. ⌜ r ≡ pos n ⌝ }
 {
-    x as i64
+    n as i64
 }
 
-pub fn from_i32(x: i32) -> usize
-    requires { ⌜ T (nonNeg x) ⌝ }
-    ensures { λ r. ⌜ r ≡ natAbs x ⌝ }
+pub fn from_i32(signed: i32) -> usize
+    requires { ⌜ T (nonNeg signed) ⌝ }
+    ensures { λ r. ⌜ r ≡ natAbs signed ⌝ }
 {
-    x as usize
+    signed as usize
+}
+
+// The same of a count that the system hands over.
+pub fn from_isize(count: isize) -> usize
+    requires { ⌜ T (nonNeg count) ⌝ }
+    ensures { λ r. ⌜ r ≡ natAbs count ⌝ }
+{
+    count as usize
 }
 
 // A signed number with more room.
-pub fn widen(x: i32) -> i64
-    ensures { λ r. ⌜ r ≡ x ⌝ }
+pub fn widen(narrow: i32) -> i64
+    ensures { λ r. ⌜ r ≡ narrow ⌝ }
 {
-    x as i64
+    narrow as i64
 }

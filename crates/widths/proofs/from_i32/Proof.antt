@@ -5,7 +5,7 @@ use Rattle.widths.proofs.from_i32.Statement.{statement}
 use Rattle.widths.proofs.from_i32.Tie as tie
 
 cast-result : tie.Need-cast-result
-cast-result c = rw (toZ-ofZ (c .fits .x)) (c .pre, fits-natAbs tt (c .fits .x))
+cast-result c = rw (toZ-ofZ (c .fits .signed)) (c .pre, fits-natAbs tt (c .fits .signed))
 
 returns : tie.Need-returns
 returns c = search needs

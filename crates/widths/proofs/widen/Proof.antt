@@ -5,14 +5,14 @@ use mir.Val.{SFits}
 use Rattle.widths.proofs.widen.Statement.{statement}
 use Rattle.widths.proofs.widen.Tie as tie
 
-fits : (c : tie.Start) → SFits w64 (c .args .x)
-fits c = sfits-widen tt (c .fits .x)
+fits : (c : tie.Start) → SFits w64 (c .args .narrow)
+fits c = sfits-widen tt (c .fits .narrow)
 
 cast-result : tie.Need-cast-result
-cast-result c = simp (toZ-ofZ (c .fits .x)) (fits c)
+cast-result c = simp (toZ-ofZ (c .fits .narrow)) (fits c)
 
 returns : tie.Need-returns
-returns c = simp (toZ-ofZ (c .fits .x), toZ-ofZ (fits c))
+returns c = simp (toZ-ofZ (c .fits .narrow), toZ-ofZ (fits c))
 
 pub widen-spec : {M : Type 1} → statement M
 widen-spec = tie.close (tie.spec cast-result returns)
