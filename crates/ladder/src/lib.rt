@@ -6,7 +6,7 @@ ghost use lib.ListN.{length, getD};
 ghost use lib.IntN.{pos, _+ℤ_};
 ghost use Rattle.meaning.specs.Plan as M;
 ghost use Rattle.meaning.specs.Plan.{MOST-RECORDS};
-ghost use Rattle.bounds.specs.Listed.{Planned};
+ghost use Rattle.plan.specs.Held.{Planned};
 ghost use Rattle.ladder.specs.Climbed.{Ready, Climbed};
 ghost use Rattle.ladder.specs.Climbing.{Span, RunFirst, RunPast, Reach, Asking, Asked, WishClimbed, RecordAsking, RecordClimbed};
 ghost use Rattle.ladder.specs.Climbing.{Grading, Graded, RecordCleared, GradesCleared, ToClimb};

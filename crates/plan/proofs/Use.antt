@@ -33,6 +33,9 @@ held-row {p} o k = rw (o .rows k) (row-of 0 (p .records) k)
 
 -- ---- the levels of record k
 
+pub slice-at : (s : List ℕ) (i e j : ℕ) → i + j < e → getD (slice i e s) j 0 ≡ getD s (i + j) 0
+slice-at s i e j h = getD-drop i _ j 0 ∙ getD-take e s (i + j) 0 h
+
 -- where they begin
 abbrev placeOf : List M.Record → ℕ → ℕ
 placeOf rs k = levelsTogether (take k rs)
@@ -96,7 +99,7 @@ module _ {p : M.Plan} {h : Plan} (area : List ℕ) (o : Holds p h) (f : WithoutF
 
       same : slice n (n + length ls) area ≡ ls
       same = ext-getD 0 _ ls long (λ i q. let j : i < length ls = omega (arith, long) in
-          getD-drop n _ i 0 ∙ getD-take (n + length ls) area (n + i) 0 (omega arith) ∙ levels (n + i) (omega (arith, fits)) ∙ level-at (p .records) k i l j)
+          slice-at area n (n + length ls) i (omega arith) ∙ levels (n + i) (omega (arith, fits)) ∙ level-at (p .records) k i l j)
 
   -- the row and its levels are record k
   pub record-at : recordOf area (rowAt h k) ≡ recordAt p k

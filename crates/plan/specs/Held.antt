@@ -10,6 +10,7 @@ use lib.IntN.{pos}
 use Rattle.meaning.specs.Plan as M
 use Rattle.meaning.specs.Plan.{MOST-RECORDS, MOST-LEVELS-TOGETHER}
 use Rattle.meaning.specs.Reading.{levelsTogether}
+use Rattle.meaning.specs.Faultless.{WithoutFault}
 use Rattle.plan.specs.declared.Record.{Record}
 use Rattle.plan.specs.declared.Plan.{Plan}
 
@@ -54,6 +55,12 @@ pub record Holds (p : M.Plan) (h : Plan) : Type 0 where
   pub used : h .used ≡ levelsTogether (p .records)
   pub size : length (h .records) ≡ MOST-RECORDS
   pub rows : (k : ℕ) → getD (h .records) k blank ≡ getD (rowsOf 0 (p .records)) k blank
+
+-- the struct holds a plan without fault
+pub record Planned (h : Plan) : Type 0 where
+  pub plan : M.Plan
+  pub holds : Holds plan h
+  pub faultless : WithoutFault plan
 
 -- the area has the levels of p, then zeros; past the place of the last possible level it is as before
 pub record LevelsHeld (p : M.Plan) (before after : List ℕ) : Type 0 where
