@@ -1,6 +1,8 @@
 -- What the proofs about a line share.
 pub mod Tests
+pub mod Firsts
 pub mod Peaks
 pub mod Walks
-pub mod Judges
 pub mod Wishes
+pub mod Judges
+pub mod Effects

@@ -19,7 +19,8 @@ use Rattle.text.proofs.Forms.{events-form, rule-form, wish-form, other-form}
 use Rattle.meaning.specs.Plan.{Plan}
 use Rattle.meaning.specs.Reading.{TAB, LINE-FEED, split, numberOf, numbers, join, Form, wrong, formOf, lineForm, lineStep, readPieces, afterStep, plan, refused}
 use Rattle.meaning.specs.Numbers.{WRONG-FORM}
-use Rattle.line.specs.Lines.{restOf, orNone, Fielded, wordForm}
+use Rattle.line.specs.declared.Field.the-variants.{Number, Wrong}
+use Rattle.line.specs.Lines.{restOf, orNone, Fielded, fieldEnd, FieldRead, wordForm}
 
 -- ---- fields
 
@@ -59,6 +60,14 @@ module _ (s : List ℕ) (p e k : ℕ) (h : p < e) (f : Fielded s p e) (q : k ≡
       go : (o : Option ℤ) → numberOf (slice (p + 1) k s) ≡ o → (drop 1 (restOf (slice p e s)) ≡ restOf (slice k e s)) × Fielded s k e
       go none d = rest-bad d
       go (some v) d = let r = rest-step v d in (ap (drop 1) (r .0), r .1)
+
+-- the same by the answer of `field_after`
+pub rest-number : (s : List ℕ) (p e : ℕ) → p < e → Fielded s p e → (v : ℤ) (k : ℕ) → FieldRead s p e (Number v k)
+    → (restOf (slice p e s) ≡ v ∷ restOf (slice k e s)) × Fielded s k e
+rest-number s p e h f v k r = rest-step s p e k h f (r .0) v (rw (r .0) (r .1))
+
+pub rest-wrong : {A : Type 0} (s : List ℕ) (p e : ℕ) → p < e → Fielded s p e → FieldRead s p e Wrong → A
+rest-wrong s p e h f r = rest-bad s p e (fieldEnd s p e) h f refl r
 
 pub rest-end : (s : List ℕ) (p e : ℕ) → p ≡ e → restOf (slice p e s) ≡ []
 rest-end s p e q = rw (after-end TAB s p e q)

@@ -17,7 +17,6 @@ use Rattle.text.specs.declared.Word.{Word}
 use Rattle.text.specs.declared.Word.the-variants.{Events, Rule, Wish, Other}
 use Rattle.plan.specs.Held.{levelsIn, rowOf}
 use Rattle.plan.specs.declared.Record.{Record}
-use Rattle.line.specs.declared.Fields.{Fields}
 use Rattle.line.specs.declared.Line.{Line}
 use Rattle.line.specs.declared.SoFar.{SoFar}
 use Rattle.line.specs.declared.Field.{Field}
@@ -26,12 +25,6 @@ use Rattle.line.specs.declared.Effect.{Effect}
 use Rattle.line.specs.declared.Effect.the-variants.{Fault, Head, Entry}
 
 -- ---- the numbers of a line
-
--- the numbers of a line: how many there are, and the first four
-pub record Numbers (vs : List ℤ) (f : Fields) : Type 0 where
-  pub count : f .count ≡ length vs
-  pub size : length (f .first) ≡ 4
-  pub at : (k : ℕ) → k < 4 → getD (f .first) k (pos 0) ≡ item vs k
 
 abbrev pub orNone : Option (List ℤ) → List ℤ
 orNone none = []
@@ -47,12 +40,6 @@ pub record Fielded (text : List ℕ) (p end : ℕ) : Type 0 where
   pub within : end ≤ length text
   pub all : numbers (after TAB (slice p end text)) ≡ some (restOf (slice p end text))
 
--- numbers read as levels into the area from place `used` on; where one is no level the area's rest is as before
-pub record LevelsRead (vs : List ℤ) (used : ℕ) (before after : List ℕ) (r : Bool) : Type 0 where
-  pub said : r ≡ allLevels vs
-  pub stored : r ≡ true → after ≡ sets before used (map natAbs vs)
-  pub above : (i : ℕ) → MOST-LEVELS-TOGETHER ≤ i → getD after i 0 ≡ getD before i 0
-
 -- r is the place from which the numbers but the first three are left
 pub record AfterThree (text : List ℕ) (first end r : ℕ) : Type 0 where
   pub fielded : Fielded text r end
@@ -65,20 +52,6 @@ wordForm Events vs = eventsForm vs
 wordForm Rule vs = ruleForm vs
 wordForm Wish vs = wishForm vs
 wordForm Other vs = wrong
-
--- the same by the count of the numbers and the first four
-abbrev pub eventsFields : Fields → Form
-eventsFields f = cond (eqb (f .count) 2) (eventsLine (item (f .first) 0) (item (f .first) 1)) wrong
-
-abbrev pub ruleFields : Fields → Form
-ruleFields f = cond (eqb (f .count) 4) (ruleLine (item (f .first) 0) (item (f .first) 1) (item (f .first) 2) (item (f .first) 3)) wrong
-
-abbrev pub wishFields : Fields → List ℤ → Form
-wishFields f vs = cond (leb 4 (f .count)) (wishLine (item (f .first) 0) (item (f .first) 1) (item (f .first) 2) (drop 3 vs)) wrong
-
--- a record from the numbers of its line: its `count` levels stand from place `first` on
-abbrev pub asRow : ℤ → ℤ → ℕ → ℕ → ℤ → ℤ → Record
-asRow a b first count lo hi = record { a = natAbs a; b = natAbs b; first = first; count = count; lo = lo; hi = hi }
 
 -- ---- what a line does
 
