@@ -21,7 +21,8 @@ use Rattle.line.specs.declared.Span.{Span}
 use Rattle.line.specs.declared.Effect.{Effect}
 use Rattle.line.specs.declared.Effect.the-variants.{Fault, Head, Entry}
 use Rattle.line.specs.Lines.{Says, Counts, Numbered, Whole, Room, restOf}
-use Rattle.line.specs.Faults.{NO-FAULT, unlessMet, firstFault, levelOf, spanOf, wishSpan, rowFrom, headFault, hasRoom, recordFault, entryFault, isHead, isRule, isWish, eventsEffect, ruleEffect, wishEffect, levelsOf, Stored, WishTaken}
+use Rattle.line.specs.Faults.{NO-FAULT, unlessMet, firstFault, levelOf, spanOf, wishSpan, rowFrom, headFault, hasRoom, recordFault, entryFault}
+use Rattle.line.specs.Faults.{isHead, isRule, isWish, eventsEffect, ruleEffect, wishEffect, levelsOf, Stored, WishTaken}
 use Rattle.line.proofs.Firsts.{met, only, head-ranges, ranged, low-end, levelled, limits}
 use Rattle.line.proofs.Wishes.{levels-as, levels-same, wish-row}
 use Rattle.line.proofs.Judges as J
@@ -70,7 +71,8 @@ module _ (l : Line) (vs : List ℤ) (n : Numbered vs l) (s : SoFar) (room : Room
   abbrev rule-fault : ℕ
   rule-fault = firstFault (unlessMet (isRule l) WRONG-FORM ∷ entryFault s (spanOf (l .fields)) [] ∷ [])
 
-  rule-step : (p : M.Plan) → Counts p (s .events) (s .records) (s .levels) → lineStep (l .number) p (ruleForm vs) ≡ J.stepOf rule-fault (withRecord p rule-entry)
+  rule-step : (p : M.Plan) → Counts p (s .events) (s .records) (s .levels)
+      → lineStep (l .number) p (ruleForm vs) ≡ J.stepOf rule-fault (withRecord p rule-entry)
   rule-step p k =
       let r = spanOf (l .fields) in
       rw (← n .count, ← n .at 0 (omega arith), ← n .at 1 (omega arith), ← n .at 2 (omega arith), ← n .at 3 (omega arith))

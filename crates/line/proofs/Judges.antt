@@ -12,7 +12,8 @@ use lib.Signed.{leZ}
 use Rattle.meaning.specs.Plan as M
 use Rattle.meaning.specs.Plan.{MOST-EVENTS, MOST-HORIZON, MOST-RECORDS, MOST-LEVELS, MOST-LEVELS-TOGETHER}
 use Rattle.meaning.specs.Peak.{peaked}
-use Rattle.meaning.specs.Reading.{item, Form, eventsLine, ruleLine, wishLine, wrong, Step, taken, fault, unless, lineStep, firstLine, laterLine, withRecord, between, inRange, sameEvent, allLevels, lastOf, levelsTogether}
+use Rattle.meaning.specs.Reading.{item, Form, eventsLine, ruleLine, wishLine, wrong, Step, taken, fault, unless, lineStep, firstLine, laterLine}
+use Rattle.meaning.specs.Reading.{withRecord, between, inRange, sameEvent, allLevels, lastOf, levelsTogether}
 use Rattle.meaning.specs.Numbers.{WRONG-FORM, TOO-MANY, OUT-OF-RANGE, SAME-EVENT, NOT-PEAKED}
 use Rattle.line.specs.declared.SoFar.{SoFar}
 use Rattle.line.specs.declared.Span.{Span}
@@ -129,7 +130,8 @@ module _ (line : ℕ) (formed : Bool) (p : M.Plan) (f : Form) (k : ℕ) (q : M.P
   unfolding lineStep
   first-step n e = go (eqb line 1) formed
     where
-      go : (x y : Bool) → cond x (firstLine (cond y f wrong)) (laterLine p (cond y f wrong)) ≡ stepOf (firstFault (unlessMet (x && y) WRONG-FORM ∷ k ∷ [])) q
+      go : (x y : Bool)
+          → cond x (firstLine (cond y f wrong)) (laterLine p (cond y f wrong)) ≡ stepOf (firstFault (unlessMet (x && y) WRONG-FORM ∷ k ∷ [])) q
       go true true = rw (only k) e
       go true false = refl
       go false true = n
@@ -140,7 +142,8 @@ module _ (line : ℕ) (formed : Bool) (p : M.Plan) (f : Form) (k : ℕ) (q : M.P
   unfolding lineStep
   later-step n e = go (eqb line 1) formed
     where
-      go : (x y : Bool) → cond x (firstLine (cond y f wrong)) (laterLine p (cond y f wrong)) ≡ stepOf (firstFault (unlessMet (not x && y) WRONG-FORM ∷ k ∷ [])) q
+      go : (x y : Bool)
+          → cond x (firstLine (cond y f wrong)) (laterLine p (cond y f wrong)) ≡ stepOf (firstFault (unlessMet (not x && y) WRONG-FORM ∷ k ∷ [])) q
       go true true = n
       go true false = refl
       go false true = rw (only k) e

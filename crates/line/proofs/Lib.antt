@@ -6,3 +6,4 @@ pub mod Walks
 pub mod Wishes
 pub mod Judges
 pub mod Effects
+pub mod One

@@ -10,7 +10,8 @@ use lib.Seq.{slice, sets}
 use lib.IntN.{ℤ, pos, natAbs}
 use Rattle.meaning.specs.Plan as M
 use Rattle.meaning.specs.Plan.{MOST-EVENTS, MOST-RECORDS, MOST-LEVELS-TOGETHER}
-use Rattle.meaning.specs.Reading.{TAB, item, numberOf, numbers, allLevels, Form, eventsLine, ruleLine, wishLine, wrong, eventsForm, ruleForm, wishForm, taken, fault, lineStep, withRecord, levelsTogether}
+use Rattle.meaning.specs.Reading.{TAB, item, numberOf, numbers, Form, wrong, eventsForm, ruleForm, wishForm}
+use Rattle.meaning.specs.Reading.{taken, fault, lineStep, withRecord, levelsTogether}
 use Rattle.text.specs.Bytes.{until, after}
 use Rattle.text.specs.Words.{wordOf}
 use Rattle.text.specs.declared.Word.{Word}

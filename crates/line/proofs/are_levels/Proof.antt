@@ -28,7 +28,8 @@ returns c =
     let l = c .before .before .before in
     let s = l .before in
     let z = getD (s .args .levels .now) (l .loop .k) 0 in
-    rw (slice-step (s .args .levels .now) (l .loop .k) (s .args .end) (c .before .before .loop-test .taken) (s .pre .1), lt-leb z TOP-LEVEL (c .if1 .taken)) at (l .loop .inv .1)
+    let step = slice-step (s .args .levels .now) (l .loop .k) (s .args .end) (c .before .before .loop-test .taken) (s .pre .1) in
+    rw (step, lt-leb z TOP-LEVEL (c .if1 .taken)) at (l .loop .inv .1)
 
 add-k : tie.Need-add-k Inv-loop μ-loop
 add-k c = omega arith

@@ -18,13 +18,13 @@ formed c = sym (c .before .is-rule .ensures) ∙ not-false _ (c .if1 .left)
 roomy : (c : tie.Else2) → hasRoom (c .before .before .before .before .args .plan) 0 ≡ true
 roomy c = sym (c .before .has-room .ensures) ∙ not-false _ (c .if2 .left)
 
-abbrev start : tie.After-span-of → tie.Start
-start c = c .before .before .before .before .before
+abbrev start : tie.Else2 → tie.Start
+start c = c .before .before .before .before
 
 tested : (c : tie.After-rule-fault)
-    → let s = start (c .before) .args in recordFault (s .plan .events) (spanOf (s .line .fields)) [] ≡ c .rule-fault .result
+    → let s = start (c .before .before) .args in recordFault (s .plan .events) (spanOf (s .line .fields)) [] ≡ c .rule-fault .result
 tested c =
-    let n = start (c .before) .args .plan .events in
+    let n = start (c .before .before) .args .plan .events in
     ap (λ (r : Span). recordFault n r []) (sym (c .before .span-of .ensures)) ∙ sym (c .rule-fault .ensures)
 
 is-rule-requires : tie.Need-is-rule-requires
@@ -53,7 +53,7 @@ returns-3 c =
 
 row-of-requires : tie.Need-row-of-requires
 row-of-requires c κs =
-    let s = start (c .before .before) in
+    let s = start (c .before .before .before) in
     let span = c .before .before .span-of .result in
     (fitting (s .args .plan .events) span [] (s .pre .1 .events) (sym (c .before .rule-fault .ensures) ∙ c .if3 .left), s .pre .1 .levels, omega arith)
 

@@ -8,8 +8,8 @@ use lib.Seq.{slice}
 use borrow.Author.Needs.{needs}
 use Rattle.meaning.specs.Peak.{peaked}
 use Rattle.meaning.specs.Numbers.{NOT-PEAKED}
-use Rattle.line.specs.Faults.{unlessMet, areLevels}
-use Rattle.line.proofs.Firsts.{stops, by-levels}
+use Rattle.line.specs.Faults.{unlessMet, areLevels, recordFault}
+use Rattle.line.proofs.Firsts.{only, stops, by-levels}
 use Rattle.line.proofs.wish_fault.Statement.{statement}
 use Rattle.line.proofs.wish_fault.Tie as tie
 
@@ -39,24 +39,27 @@ returns-2 c =
     let one = c .before .before in
     let s = start one in
     let k = c .before .rule-fault in
-    sym (by-levels (s .args .n) (s .args .span) (part s) ∙ rw (levelled one, sym (k .ensures)) (sym (stops (k .result) (unlessMet (peaked (part s)) NOT-PEAKED ∷ []) (c .if2 .taken))))
+    let first = stops (k .result) (unlessMet (peaked (part s)) NOT-PEAKED ∷ []) (c .if2 .taken) in
+    sym (by-levels (s .args .n) (s .args .span) (part s) ∙ rw (levelled one, sym (k .ensures)) (sym first))
 
 is-peaked-requires : tie.Need-is-peaked-requires
 is-peaked-requires c κs = search needs
 
-returns-3 : tie.Need-returns-3
-returns-3 c =
-    let two = c .before .before in
+-- all tests but the last are met
+last : (c : tie.After-is-peaked)
+    → let s = start (c .before .before .before) in recordFault (s .args .n) (s .args .span) (part s) ≡ unlessMet (c .is-peaked .result) NOT-PEAKED
+last c =
+    let two = c .before in
     let one = two .before .before in
     let s = start one in
-    sym (by-levels (s .args .n) (s .args .span) (part s) ∙ rw (levelled one, sym (two .before .rule-fault .ensures) ∙ two .if2 .left, sym (c .before .is-peaked .ensures) ∙ c .if3 .taken))
+    let none = sym (two .before .rule-fault .ensures) ∙ two .if2 .left in
+    by-levels (s .args .n) (s .args .span) (part s) ∙ rw (levelled one, none, sym (c .is-peaked .ensures)) (only (unlessMet (c .is-peaked .result) NOT-PEAKED))
+
+returns-3 : tie.Need-returns-3
+returns-3 c = sym (last (c .before) ∙ rw (c .if3 .taken))
 
 returns-4 : tie.Need-returns-4
-returns-4 c =
-    let two = c .before .before in
-    let one = two .before .before in
-    let s = start one in
-    sym (by-levels (s .args .n) (s .args .span) (part s) ∙ rw (levelled one, sym (two .before .rule-fault .ensures) ∙ two .if2 .left, sym (c .before .is-peaked .ensures) ∙ c .if3 .left))
+returns-4 c = sym (last (c .before) ∙ rw (c .if3 .left))
 
 pub wish-fault-spec : {M : Type 1} → statement M
 wish-fault-spec =
