@@ -1,6 +1,6 @@
 -- What `take` promises of a line `events`, `rule` or `wish`, from what its function answers.
 use mathlib.Core.Path.{_≡_, refl, sym, ap, _∙_}
-use mathlib.Core.Bool.{Bool, true, false, cond, _&&_, not}
+use mathlib.Core.Bool.{Bool, true, false, not}
 use mathlib.Core.List.{List, [], _∷_, map}
 use Prim.Native.Nat.{ℕ, _+_, _-_, _≤_, _<_}
 use native.Mathlib.Omega.{arith}
@@ -12,7 +12,7 @@ use lib.IntN.{ℤ, natAbs}
 use Rattle.meaning.specs.Plan as M
 use Rattle.meaning.specs.Plan.{MOST-EVENTS, MOST-LEVELS-TOGETHER}
 use Rattle.meaning.specs.Numbers.{WRONG-FORM, TOO-MANY}
-use Rattle.meaning.specs.Reading.{item, eventsLine, ruleLine, wishLine, wrong, eventsForm, ruleForm, wishForm, lineStep, fault, withRecord}
+use Rattle.meaning.specs.Reading.{item, eventsLine, ruleLine, wishLine, eventsForm, ruleForm, wishForm, lineStep, fault, withRecord}
 use Rattle.meaning.proofs.Tests.{both, count-to}
 use Rattle.plan.proofs.Padded.{sets-above}
 use Rattle.line.specs.declared.Line.{Line}

@@ -1,13 +1,11 @@
--- What one line of a text gives: its numbers, its levels, and what it does to the plan read so far.
+-- What one line of a text gives: its numbers, and what it does to the plan read so far.
 use mathlib.Core.Path.{_≡_}
-use mathlib.Core.Bool.{Bool, true, cond}
 use mathlib.Core.Option.{Option, none, some}
-use mathlib.Core.List.{List, [], _∷_, map}
+use mathlib.Core.List.{List, [], _∷_}
 use Prim.Native.Nat.{ℕ, _+_, _≤_, _<_}
-use lib.Dec.{eqb, leb}
 use lib.ListN.{length, getD, set, drop}
 use lib.Seq.{slice, sets}
-use lib.IntN.{ℤ, pos, natAbs}
+use lib.IntN.{ℤ, pos}
 use Rattle.meaning.specs.Plan as M
 use Rattle.meaning.specs.Plan.{MOST-EVENTS, MOST-RECORDS, MOST-LEVELS-TOGETHER}
 use Rattle.meaning.specs.Reading.{TAB, item, numberOf, numbers, Form, wrong, eventsForm, ruleForm, wishForm}

@@ -1,16 +1,16 @@
 // What one line of a text gives: its fields, the tests of section 3 in their order, and the record that it adds to the plan.
 ghost use mathlib.Core.Path.{_≡_};
 ghost use mathlib.Core.Bool.{_&&_, _||_};
-ghost use mathlib.Core.List.{List, [], map};
-ghost use Prim.Native.Nat.{ℕ, _+_, _-_, _≤_, _<_};
-ghost use lib.ListN.{length, drop};
+ghost use mathlib.Core.List.{[], map};
+ghost use Prim.Native.Nat.{_+_, _-_, _≤_, _<_};
+ghost use lib.ListN.{length};
 ghost use lib.Seq.{slice, sets};
 ghost use lib.Dec.{ltb};
 ghost use lib.IntN.{natAbs};
 ghost use Rattle.meaning.specs.Plan.{MOST-EVENTS, MOST-LEVELS, MOST-LEVELS-TOGETHER, MOST-BYTES};
 ghost use Rattle.meaning.specs.Peak.{peaked};
 ghost use Rattle.meaning.specs.Reading.{between, isEvent, isEnd, inRange};
-ghost use Rattle.line.specs.Lines.{restOf, Fielded, AfterThree, Says, begun, withNumber, FieldRead, Whole, Room, Gives};
+ghost use Rattle.line.specs.Lines.{restOf, Fielded, AfterThree, begun, withNumber, FieldRead, Whole, Room, Gives};
 ghost use Rattle.line.specs.declared.Effect.the-variants.{Head};
 ghost use Rattle.line.specs.Faults.{NO-FAULT, levelOf, areLevels, lastFrom, spanOf, wishSpan, rowFrom, Fitting};
 ghost use Rattle.line.specs.Faults.{hasRoom, headFault, recordFault, isHead, isRule, isWish, Roomy};
@@ -165,7 +165,7 @@ fn after_three(text: &[u8], first: usize, end: usize) -> usize
     text::find(text, q + 1, end, TAB)
 }
 
-// The numbers from place p of the text on, stored as levels from place `used` on.
+// The numbers of a line from place `from` on, stored as levels from place `used` on.
 fn read_levels(text: &[u8], from: usize, end: usize, levels: &mut [u8], used: usize)
     requires { ⌜ Fielded (now text) from end × (used + length (restOf (slice from end (now text))) ≤ MOST-LEVELS-TOGETHER)
         × (MOST-LEVELS-TOGETHER ≤ length (now levels)) ⌝ }

@@ -3,7 +3,6 @@ use mathlib.Core.Path.{_≡_, _∙_}
 use native.Mathlib.Omega.{arith}
 use lib.IntN.{natAbs}
 use mir.Facts.{toZ-ofZ}
-use borrow.Author.Needs.{needs}
 use Rattle.meaning.specs.Plan.{MOST-EVENTS, MOST-HORIZON}
 use Rattle.meaning.proofs.Tests.{count-to}
 use Rattle.line.proofs.Tests.{sign}

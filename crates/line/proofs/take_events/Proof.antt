@@ -1,13 +1,10 @@
 -- `line::take_events` meets its contract: each test that fails is the first fault.
 use mathlib.Core.Path.{_≡_, sym, _∙_}
 use mathlib.Core.Bool.{true}
-use native.Mathlib.Omega.{arith}
 use borrow.Author.Tests.{not-true, not-false}
 use mir.Facts.{toZ-ofZ}
 use mir.Syntax.{w32}
 use mir.Val.{SFits}
-use lib.ListN.{getD}
-use lib.IntN.{pos}
 use borrow.Author.Needs.{needs}
 use Rattle.meaning.specs.Reading.{item}
 use Rattle.line.specs.Faults.{isHead, headFault}

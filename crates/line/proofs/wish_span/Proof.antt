@@ -1,5 +1,4 @@
 -- `line::wish_span` meets its contract: the numbers of a rule, but for the last.
-use mathlib.Core.Path.{_≡_}
 use mir.Syntax.{w32}
 use borrow.Author.Needs.{needs}
 use Rattle.ticks.proofs.Ticks.{back}
