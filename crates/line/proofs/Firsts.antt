@@ -42,12 +42,14 @@ met false (suc k) ks h e = absurd (omega arith)
 
 pub head-ranges : (n h : ℤ) → headFault n h ≡ NO-FAULT
     → (between (pos 1) (pos MOST-EVENTS) n ≡ true) × (between (pos 0) (pos MOST-HORIZON) h ≡ true)
+unfolding headFault
 head-ranges n h e =
     let horizon = between (pos 0) (pos MOST-HORIZON) h in
     let t = met (between (pos 1) (pos MOST-EVENTS) n) OUT-OF-RANGE (unlessMet horizon OUT-OF-RANGE ∷ []) (omega arith) e in
     (t .0, met horizon OUT-OF-RANGE [] (omega arith) (t .1) .0)
 
 pub ranged : (n : ℕ) (r : Span) (ls : List ℕ) → recordFault n r ls ≡ NO-FAULT → inRange n (r .a) (r .b) (r .lo) (r .hi) ≡ true
+unfolding recordFault
 ranged n r ls e = go (inRange n (r .a) (r .b) (r .lo) (r .hi)) refl
   where
     go : (b : Bool) → inRange n (r .a) (r .b) (r .lo) (r .hi) ≡ b → inRange n (r .a) (r .b) (r .lo) (r .hi) ≡ true
@@ -114,6 +116,7 @@ levels-first true true true true u = refl
 
 pub by-levels : (n : ℕ) (r : Span) (ls : List ℕ)
     → recordFault n r ls ≡ firstFault (unlessMet (areLevels ls) OUT-OF-RANGE ∷ recordFault n r [] ∷ unlessMet (peaked ls) NOT-PEAKED ∷ [])
+unfolding recordFault
 by-levels n r ls =
     rw flat (levels-first (inRange n (r .a) (r .b) (r .lo) (r .hi)) (leZ (r .lo) (r .hi)) (areLevels ls) (not (sameEvent (r .a) (r .b))) (peaked ls))
 

@@ -19,7 +19,7 @@ use Rattle.line.specs.declared.SoFar.{SoFar}
 use Rattle.line.specs.declared.Span.{Span}
 use Rattle.line.specs.declared.Effect.{Effect}
 use Rattle.line.specs.Lines.{Says, Counts}
-use Rattle.line.specs.Faults.{NO-FAULT, unlessMet, firstFault, levelOf, wishSpan, headFault, hasRoom, entryFault, gives}
+use Rattle.line.specs.Faults.{NO-FAULT, unlessMet, firstFault, levelOf, wishSpan, headFault, hasRoom, recordFault, entryFault, gives}
 use Rattle.line.proofs.Firsts.{only, flat}
 use Rattle.line.proofs.Wishes.{range-last, order-last, levels-as, levels-same}
 
@@ -50,6 +50,7 @@ head-tests true false q = refl
 head-tests true true q = refl
 
 pub head-first : (n h : ℤ) → firstLine (eventsLine n h) ≡ stepOf (headFault n h) (record { events = natAbs n; horizon = natAbs h; records = [] })
+unfolding headFault
 head-first n h =
     head-tests (between (pos 1) (pos MOST-EVENTS) n) (between (pos 0) (pos MOST-HORIZON) h) (record { events = natAbs n; horizon = natAbs h; records = [] })
 
@@ -101,6 +102,7 @@ module _ (p : M.Plan) (s : SoFar) (k : Counts p (s .events) (s .records) (s .lev
   pub rule-later : (r : Span) → s .levels ≤ MOST-LEVELS-TOGETHER
       → laterLine p (ruleLine (r .a) (r .b) (r .lo) (r .hi))
       ≡ stepOf (entryFault s r []) (withRecord p (M.rule (natAbs (r .a)) (natAbs (r .b)) (r .lo) (r .hi)))
+  unfolding recordFault
   rule-later r h =
       let ranged = inRange (p .events) (r .a) (r .b) (r .lo) (r .hi) in
       let next = withRecord p (M.rule (natAbs (r .a)) (natAbs (r .b)) (r .lo) (r .hi)) in
@@ -111,6 +113,7 @@ module _ (p : M.Plan) (s : SoFar) (k : Counts p (s .events) (s .records) (s .lev
       → laterLine p (wishLine (item vs 0) (item vs 1) (item vs 2) ls)
       ≡ stepOf (entryFault s (wishSpan vs (length ls)) (map levelOf ls))
       (withRecord p (M.wish (natAbs (item vs 0)) (natAbs (item vs 1)) (item vs 2) (map natAbs ls)))
+  unfolding recordFault
   wish-later vs ls =
       let a = item vs 0 in
       let b = item vs 1 in

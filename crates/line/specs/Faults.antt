@@ -73,7 +73,7 @@ pub record Fitting (r : Span) : Type 0 where
 -- ---- the faults
 
 -- n events and the horizon h
-abbrev pub headFault : ℤ → ℤ → ℕ
+unfoldable pub headFault : ℤ → ℤ → ℕ
 headFault n h =
     firstFault (
     unlessMet (between (pos 1) (pos MOST-EVENTS) n) OUT-OF-RANGE
@@ -85,7 +85,7 @@ abbrev pub hasRoom : SoFar → ℕ → Bool
 hasRoom s m = ltb (s .records) MOST-RECORDS && leb m MOST-LEVELS && leb (s .levels + m) MOST-LEVELS-TOGETHER
 
 -- a record in a plan of n events, by its numbers and its levels; a rule has none
-abbrev pub recordFault : ℕ → Span → List ℕ → ℕ
+unfoldable pub recordFault : ℕ → Span → List ℕ → ℕ
 recordFault n r ls =
     firstFault (
     unlessMet (inRange n (r .a) (r .b) (r .lo) (r .hi)) OUT-OF-RANGE

@@ -6,6 +6,7 @@ use mir.Facts.{toZ-ofZ}
 use borrow.Author.Needs.{needs}
 use Rattle.meaning.specs.Plan.{MOST-EVENTS, MOST-HORIZON}
 use Rattle.meaning.specs.Reading.{between}
+use Rattle.line.specs.Faults.{headFault}
 use Rattle.line.proofs.head_fault.Statement.{statement}
 use Rattle.line.proofs.head_fault.Tie as tie
 
@@ -19,17 +20,20 @@ is-between-requires : tie.Need-is-between-requires
 is-between-requires c κs = search needs
 
 returns : tie.Need-returns
+unfolding headFault
 returns c = rw (n-is (c .before) ∙ not-true _ (c .if1 .taken))
 
 is-between-requires-2 : tie.Need-is-between-requires-2
 is-between-requires-2 c κs = search needs
 
 returns-2 : tie.Need-returns-2
+unfolding headFault
 returns-2 c =
     let one = c .before .before in
     rw (n-is (one .before) ∙ not-false _ (one .if1 .left), h-is (c .before) ∙ c .if2 .taken)
 
 returns-3 : tie.Need-returns-3
+unfolding headFault
 returns-3 c =
     let one = c .before .before in
     rw (n-is (one .before) ∙ not-false _ (one .if1 .left), h-is (c .before) ∙ c .if2 .left)

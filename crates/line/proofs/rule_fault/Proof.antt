@@ -7,6 +7,7 @@ use mir.Syntax.{w32}
 use borrow.Author.Needs.{needs}
 use Rattle.ticks.proofs.Ticks.{back}
 use Rattle.meaning.specs.Reading.{inRange, sameEvent}
+use Rattle.line.specs.Faults.{recordFault}
 use Rattle.line.proofs.Firsts.{flat}
 use Rattle.line.proofs.rule_fault.Statement.{statement}
 use Rattle.line.proofs.rule_fault.Tie as tie
@@ -41,23 +42,27 @@ in-range-requires : tie.Need-in-range-requires
 in-range-requires c κs = search needs
 
 returns : tie.Need-returns
+unfolding recordFault
 returns c = rw (sym (c .before .in-range .ensures) ∙ not-true _ (c .if1 .taken))
 
 at-most-requires : tie.Need-at-most-requires
 at-most-requires c κs = search needs
 
 returns-2 : tie.Need-returns-2
+unfolding recordFault
 returns-2 c = rw (ranged (c .before .before .before .before), order-is (c .before) ∙ not-true _ (c .if2 .taken))
 
 equal-requires : tie.Need-equal-requires
 equal-requires c κs = search needs
 
 returns-3 : tie.Need-returns-3
+unfolding recordFault
 returns-3 c =
     let two = c .before .before .before .before in
     rw (ranged (two .before .before .before .before), ordered two, same-is (c .before) ∙ c .if3 .taken)
 
 returns-4 : tie.Need-returns-4
+unfolding recordFault
 returns-4 c =
     let two = c .before .before .before .before in
     rw (ranged (two .before .before .before .before), ordered two, same-is (c .before) ∙ c .if3 .left, flat)
