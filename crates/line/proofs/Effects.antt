@@ -49,6 +49,7 @@ module _ (l : Line) (vs : List ℤ) (n : Numbered vs l) where
       (J.head-first head-n head-h))
 
   pub events-says : (s : SoFar) (area : List ℕ) → Says (l .number) (eventsForm vs) (s .events) (s .records) (s .levels) area area (eventsEffect l)
+  unfolding eventsEffect
   events-says s area =
       J.says-gives (l .number) (eventsForm vs) (s .events) (s .records) (s .levels) area area events-fault (Head (natAbs head-n) (natAbs head-h)) (λ _. headed)
       (λ p _. events-step p) (λ i _. refl)
@@ -80,6 +81,7 @@ module _ (l : Line) (vs : List ℤ) (n : Numbered vs l) (s : SoFar) (room : Room
       (J.rule-later p s k r (room .levels)))
 
   pub rule-says : (area : List ℕ) → Says (l .number) (ruleForm vs) (s .events) (s .records) (s .levels) area area (ruleEffect l s)
+  unfolding ruleEffect
   rule-says area =
       J.says-gives (l .number) (ruleForm vs) (s .events) (s .records) (s .levels) area area rule-fault (Entry (rowFrom (spanOf (l .fields)) (s .levels) 0))
       (λ p. withRecord p rule-entry) rule-step (λ i _. refl)
@@ -163,6 +165,7 @@ module _ (text : List ℕ) (l : Line) (w : Whole text l) (s : SoFar) (before aft
         }
 
     stored-says : (e : Effect) → Stored text l s before after e → Wish e
+    unfolding wishEffect
     stored-says e t =
         let ls-fit : s .levels + length (levelsOf text l) ≤ MOST-LEVELS-TOGETHER = omega (arith, levels-many, limits s m room .together) in
         J.says-of (l .number) (wishForm all) (s .events) (s .records) (s .levels) before after (wishEffect l s (levelsOf text l)) e (sym (t .0))

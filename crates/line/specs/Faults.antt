@@ -117,19 +117,19 @@ abbrev pub gives : ℕ → Effect → Effect
 gives zero e = e
 gives (suc k) e = Fault (suc k)
 
-abbrev pub eventsEffect : Line → Effect
+unfoldable pub eventsEffect : Line → Effect
 eventsEffect l =
     let n = item (l .fields) 0 in
     let h = item (l .fields) 1 in
     gives (firstFault (unlessMet (isHead l) WRONG-FORM ∷ headFault n h ∷ [])) (Head (natAbs n) (natAbs h))
 
-abbrev pub ruleEffect : Line → SoFar → Effect
+unfoldable pub ruleEffect : Line → SoFar → Effect
 ruleEffect l s =
     let r = spanOf (l .fields) in
     gives (firstFault (unlessMet (isRule l) WRONG-FORM ∷ entryFault s r [] ∷ [])) (Entry (rowFrom r (s .levels) 0))
 
 -- a wish whose levels ls are stored
-abbrev pub wishEffect : Line → SoFar → List ℕ → Effect
+unfoldable pub wishEffect : Line → SoFar → List ℕ → Effect
 wishEffect l s ls =
     let m = l .count - 3 in
     let r = wishSpan (l .fields) m in

@@ -7,7 +7,7 @@ use mir.Syntax.{w32}
 use mir.Val.{SFits}
 use borrow.Author.Needs.{needs}
 use Rattle.meaning.specs.Reading.{item}
-use Rattle.line.specs.Faults.{isHead, headFault}
+use Rattle.line.specs.Faults.{isHead, headFault, eventsEffect}
 use Rattle.line.proofs.Firsts.{only, given-fault}
 use Rattle.line.proofs.take_events.Statement.{statement}
 use Rattle.line.proofs.take_events.Tie as tie
@@ -32,6 +32,7 @@ is-head-requires : tie.Need-is-head-requires
 is-head-requires c κs = search needs
 
 returns : tie.Need-returns
+unfolding eventsEffect
 returns c = rw (sym (c .before .is-head .ensures) ∙ not-true _ (c .if1 .taken))
 
 element-copy-out-n : tie.Need-element-copy-out-n
@@ -44,6 +45,7 @@ head-fault-requires : tie.Need-head-fault-requires
 head-fault-requires c κs = search needs
 
 returns-2 : tie.Need-returns-2
+unfolding eventsEffect
 returns-2 c =
     let k = c .before .head-fault .result in
     rw (formed (c .before .before .before .before), tested (c .before), only k) (given-fault k _ (c .if2 .taken))
@@ -52,6 +54,7 @@ head-of-requires : tie.Need-head-of-requires
 head-of-requires c κs = search needs
 
 returns-3 : tie.Need-returns-3
+unfolding eventsEffect
 returns-3 c =
     let two = c .before in
     let both = two .before .before in

@@ -6,7 +6,7 @@ use native.Mathlib.Omega.{arith}
 use borrow.Author.Tests.{not-true, not-false}
 use borrow.Author.Needs.{needs}
 use Rattle.line.specs.declared.Span.{Span}
-use Rattle.line.specs.Faults.{spanOf, isRule, hasRoom, recordFault}
+use Rattle.line.specs.Faults.{spanOf, isRule, hasRoom, recordFault, ruleEffect}
 use Rattle.line.proofs.Firsts.{only, given-fault, fitting}
 use Rattle.line.proofs.take_rule.Statement.{statement}
 use Rattle.line.proofs.take_rule.Tie as tie
@@ -31,12 +31,14 @@ is-rule-requires : tie.Need-is-rule-requires
 is-rule-requires c κs = search needs
 
 returns : tie.Need-returns
+unfolding ruleEffect
 returns c = rw (sym (c .before .is-rule .ensures) ∙ not-true _ (c .if1 .taken))
 
 has-room-requires : tie.Need-has-room-requires
 has-room-requires c κs = search needs
 
 returns-2 : tie.Need-returns-2
+unfolding ruleEffect
 returns-2 c = rw (formed (c .before .before), sym (c .before .has-room .ensures) ∙ not-true _ (c .if2 .taken))
 
 span-of-requires : tie.Need-span-of-requires
@@ -46,6 +48,7 @@ rule-fault-requires : tie.Need-rule-fault-requires
 rule-fault-requires c κs = search needs
 
 returns-3 : tie.Need-returns-3
+unfolding ruleEffect
 returns-3 c =
     let k = c .before .rule-fault .result in
     let two = c .before .before .before in
@@ -58,6 +61,7 @@ row-of-requires c κs =
     (fitting (s .args .plan .events) span [] (s .pre .1 .events) (sym (c .before .rule-fault .ensures) ∙ c .if3 .left), s .pre .1 .levels, omega arith)
 
 returns-4 : tie.Need-returns-4
+unfolding ruleEffect
 returns-4 c =
     let three = c .before in
     let two = three .before .before .before in

@@ -6,7 +6,7 @@ use native.Mathlib.Omega.{arith}
 use lib.Seq.{slice}
 use borrow.Author.Needs.{needs}
 use Rattle.line.specs.declared.Span.{Span}
-use Rattle.line.specs.Faults.{wishSpan, recordFault}
+use Rattle.line.specs.Faults.{wishSpan, recordFault, wishEffect}
 use Rattle.line.proofs.Firsts.{given-fault, fitting, Limits, limits}
 use Rattle.line.proofs.wish_effect.Statement.{statement}
 use Rattle.line.proofs.wish_effect.Tie as tie
@@ -43,6 +43,7 @@ wish-fault-requires : tie.Need-wish-fault-requires
 wish-fault-requires c κs = let s = start c in (s .pre .1 .events, omega arith, omega (arith, room s .together, s .pre .3))
 
 returns : tie.Need-returns
+unfolding wishEffect
 returns c = rw (tested (c .before)) (given-fault (c .before .wish-fault .result) _ (c .if1 .taken))
 
 row-of-requires : tie.Need-row-of-requires
@@ -53,6 +54,7 @@ row-of-requires c κs =
     (fitting (s .args .plan .events) (w .wish-span .result) (part s) (s .pre .1 .events) none, s .pre .1 .levels, room s .one)
 
 returns-2 : tie.Need-returns-2
+unfolding wishEffect
 returns-2 c =
     let f = c .before .before in
     rw (tested f ∙ c .before .if1 .left, c .row-of .ensures, f .before .wish-span .ensures)
