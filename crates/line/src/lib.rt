@@ -136,6 +136,7 @@ fn is_event(n: usize, v: i32) -> bool
     if 0 <= v { v < widths::to_i32(n) } else { false }
 }
 
+// v may be an end of a span.
 fn is_end(v: i32) -> bool
     ensures { λ r. ⌜ r ≡ isEnd v ⌝ }
 {
@@ -209,6 +210,7 @@ fn up_again(fallen: bool, x: u8, z: u8) -> bool
     if fallen { x < z } else { false }
 }
 
+// The levels have gone down somewhere up to z.
 fn has_fallen(fallen: bool, x: u8, z: u8) -> bool
     ensures { λ r. ⌜ r ≡ (fallen || ltb z x) ⌝ }
 {
@@ -280,6 +282,7 @@ fn wish_span(line: Line, m: usize) -> Span
     span
 }
 
+// Its events are those of the plan, and its ends are within their limits.
 fn in_range(n: usize, span: Span) -> bool
     requires { ⌜ n ≤ MOST-EVENTS ⌝ }
     ensures { λ r. ⌜ r ≡ inRange n (span .a) (span .b) (span .lo) (span .hi) ⌝ }
@@ -380,6 +383,7 @@ fn row_of(span: Span, first: usize, count: usize) -> Record
     }
 }
 
+// The form of line 1: two numbers.
 fn is_head(line: Line) -> bool
     ensures { λ r. ⌜ r ≡ isHead line ⌝ }
 {
@@ -389,6 +393,7 @@ fn is_head(line: Line) -> bool
     line.count == 2
 }
 
+// The form of a later line `rule`: four numbers.
 fn is_rule(line: Line) -> bool
     ensures { λ r. ⌜ r ≡ isRule line ⌝ }
 {
@@ -398,6 +403,7 @@ fn is_rule(line: Line) -> bool
     line.count == 4
 }
 
+// The form of a later line `wish`: three numbers and one or more levels.
 fn is_wish(line: Line) -> bool
     ensures { λ r. ⌜ r ≡ isWish line ⌝ }
 {
@@ -451,7 +457,7 @@ fn take_rule(line: Line, plan: SoFar) -> Effect
     Effect::Entry(row_of(span, plan.levels, 0))
 }
 
-// What a wish gives for which there is room, its levels stored behind those of the others.
+// What a wish gives whose levels are stored behind those of the others.
 fn wish_effect(line: Line, plan: SoFar, levels: &[u8]) -> Effect
     requires { ⌜ (length (line .fields) ≡ 4) × Room plan × Roomy line plan × (MOST-LEVELS-TOGETHER ≤ length (now levels)) ⌝ }
     ensures { λ r. ⌜ r ≡ wishEffect line plan (slice (plan .levels) (plan .levels + (line .count - 3)) (now (levels .entry))) ⌝ }
@@ -466,7 +472,7 @@ fn wish_effect(line: Line, plan: SoFar, levels: &[u8]) -> Effect
     Effect::Entry(row_of(span, at, m))
 }
 
-// Its levels are stored whatever they are, and tested there.
+// A wish for which there is room: its levels are stored whatever they are, and tested where they stand.
 fn store_wish(text: &[u8], line: Line, plan: SoFar, levels: &mut [u8]) -> Effect
     requires { ⌜ Whole (now text) line × Room plan × Roomy line plan × (MOST-LEVELS-TOGETHER ≤ length (now levels)) ⌝ }
     ensures { λ r. ⌜ Stored (now (text .entry)) line plan (now (levels .entry)) (now (levels .exit)) r ⌝ }
