@@ -1,35 +1,27 @@
--- The faults of a line in their order: what the tests made so far say of `lineStep`.
-use mathlib.Core.Path.{_≡_, refl}
-use mathlib.Core.Bool.{Bool, true, false, cond, _&&_, and-false}
-use mathlib.Core.List.{List, [], map}
-use Prim.Native.Nat.{ℕ, _+_, _≤_, _<_}
+-- What a line does to the plan read so far, from what its tests give: the faults by the tests in their order are those of `lineStep`.
+use mathlib.Core.Path.{_≡_, refl, sym, ap}
+use mathlib.Core.Bool.{Bool, true, false, cond, _&&_, not}
+use mathlib.Core.List.{List, [], _∷_, map}
+use Prim.Native.Nat.{ℕ, zero, suc, _+_, _≤_}
 use native.Mathlib.Omega.{arith}
-use borrow.Author.Tests.{eq-eqb, ne-eqb, lt-ltb, le-ltb, le-leb, lt-leb}
+use borrow.Author.Tests.{le-leb}
 use lib.Dec.{eqb, ltb, leb}
-use lib.ListN.{length, drop}
+use lib.ListN.{length, getD, length-map}
 use lib.IntN.{ℤ, pos, natAbs}
 use lib.Signed.{leZ}
 use Rattle.meaning.specs.Plan as M
+use Rattle.meaning.specs.Plan.{MOST-EVENTS, MOST-HORIZON, MOST-RECORDS, MOST-LEVELS, MOST-LEVELS-TOGETHER}
 use Rattle.meaning.specs.Peak.{peaked}
-use Rattle.meaning.specs.Reading.{item, Form, eventsLine, ruleLine, wishLine, wrong, eventsForm, ruleForm, wishForm, taken, fault, lineStep, firstLine, laterLine, withRecord, between, isEvent, isEnd, inRange, sameEvent, lastOf, allLevels, levelsTogether}
+use Rattle.meaning.specs.Reading.{item, Form, eventsLine, ruleLine, wishLine, wrong, Step, taken, fault, unless, lineStep, firstLine, laterLine}
+use Rattle.meaning.specs.Reading.{withRecord, between, inRange, sameEvent, allLevels, lastOf, levelsTogether}
 use Rattle.meaning.specs.Numbers.{WRONG-FORM, TOO-MANY, OUT-OF-RANGE, SAME-EVENT, NOT-PEAKED}
-use Rattle.text.specs.declared.Word.{Word}
-use Rattle.line.specs.declared.Fields.{Fields}
+use Rattle.line.specs.declared.SoFar.{SoFar}
+use Rattle.line.specs.declared.Span.{Span}
 use Rattle.line.specs.declared.Effect.{Effect}
-use Rattle.line.specs.Lines.{eventsFields, ruleFields, wishFields, wordForm, Numbers, Counts, Faulted, Says}
-
--- a fault of a function that does not touch the area
-pub stays : (line : ℕ) (f : Form) (n count used : ℕ) (levels : List ℕ) (k : ℕ) → 0 < k → ((p : M.Plan) → Counts p n count used → lineStep line p f ≡ fault k)
-    → Faulted line f n count used levels levels k
-stays line f n count used levels k h s = record { some = h; step = s; above = λ i _. refl }
-
-first-not : (b : Bool) (f : Form) → firstLine f ≡ fault WRONG-FORM → firstLine (cond b f wrong) ≡ fault WRONG-FORM
-first-not true f e = e
-first-not false f e = refl
-
-later-not : (p : M.Plan) (b : Bool) (f : Form) → laterLine p f ≡ fault WRONG-FORM → laterLine p (cond b f wrong) ≡ fault WRONG-FORM
-later-not p true f e = e
-later-not p false f e = refl
+use Rattle.line.specs.Lines.{Says, Counts}
+use Rattle.line.specs.Faults.{NO-FAULT, unlessMet, firstFault, levelOf, wishSpan, headFault, hasRoom, recordFault, entryFault, gives}
+use Rattle.line.proofs.Firsts.{only, flat}
+use Rattle.line.proofs.Wishes.{range-last, order-last, levels-as, levels-same}
 
 pub step-wrong : (line : ℕ) (p : M.Plan) → lineStep line p wrong ≡ fault WRONG-FORM
 unfolding lineStep
@@ -40,121 +32,132 @@ step-wrong line p = go (eqb line 1)
     go false = refl
 
 -- what the answer says, once its case is known
-pub says-of : (line : ℕ) (f : Form) (n count used : ℕ) (before after : List ℕ) (r x : Effect) → r ≡ x → Says line f n count used before after r → Says line f n count used before after x
+pub says-of : (line : ℕ) (f : Form) (n count used : ℕ) (before after : List ℕ) (r x : Effect) → r ≡ x
+    → Says line f n count used before after r → Says line f n count used before after x
 says-of line f n count used before after r x e s = rw (← e) s
 
--- what a line with the word w gives, from the form that its fields have
-pub by-word : (line : ℕ) (f : Form) (w x : Word) (vs : List ℤ) (n count used : ℕ) (before after : List ℕ) (r : Effect) → w ≡ x → f ≡ wordForm x vs
-    → Says line f n count used before after r → Says line (wordForm w vs) n count used before after r
-by-word line f w x vs n count used before after r e q s = rw (e, ← q) s
+-- ---- a fault as a step
 
--- the form by the first four numbers is the form by all
-module _ (vs : List ℤ) (f : Fields) (n : Numbers vs f) where
-  pub events-all : eventsFields f ≡ eventsForm vs
-  events-all = rw (n .count, n .at 0 (omega arith), n .at 1 (omega arith))
+-- the plan q, unless there is a fault
+abbrev pub stepOf : ℕ → M.Plan → Step
+stepOf zero q = taken q
+stepOf (suc k) q = fault (suc k)
 
-  pub rule-all : ruleFields f ≡ ruleForm vs
-  rule-all = rw (n .count, n .at 0 (omega arith), n .at 1 (omega arith), n .at 2 (omega arith), n .at 3 (omega arith))
+head-tests : (x y : Bool) (q : M.Plan)
+    → unless (x && y) OUT-OF-RANGE (taken q) ≡ stepOf (firstFault (unlessMet x OUT-OF-RANGE ∷ unlessMet y OUT-OF-RANGE ∷ [])) q
+head-tests false y q = refl
+head-tests true false q = refl
+head-tests true true q = refl
 
-  pub wish-all : wishFields f vs ≡ wishForm vs
-  wish-all = rw (n .count, n .at 0 (omega arith), n .at 1 (omega arith), n .at 2 (omega arith))
+pub head-first : (n h : ℤ) → firstLine (eventsLine n h) ≡ stepOf (headFault n h) (record { events = natAbs n; horizon = natAbs h; records = [] })
+unfolding headFault
+head-first n h =
+    head-tests (between (pos 1) (pos MOST-EVENTS) n) (between (pos 0) (pos MOST-HORIZON) h) (record { events = natAbs n; horizon = natAbs h; records = [] })
 
-module _ (line : ℕ) (f : Fields) (p : M.Plan) where
-  -- ---- `events`
-  pub ev-line : (line ≡ 1 → ⊥) → lineStep line p (eventsFields f) ≡ fault WRONG-FORM
+-- the tests of a record, each by its answer
+abbrev tests : Bool → Bool → Bool → Bool → Bool → Bool → ℕ
+tests r x y l s u =
+    firstFault (
+    unlessMet r TOO-MANY
+    ∷ firstFault (
+    unlessMet x OUT-OF-RANGE
+    ∷ unlessMet y OUT-OF-RANGE
+    ∷ unlessMet l OUT-OF-RANGE
+    ∷ unlessMet s SAME-EVENT
+    ∷ unlessMet u NOT-PEAKED
+    ∷ [])
+    ∷ [])
+
+rule-tests : (r x y s : Bool) (q : M.Plan)
+    → unless r TOO-MANY (unless (x && y) OUT-OF-RANGE (unless s SAME-EVENT (taken q))) ≡ stepOf (tests r x y true s true) q
+rule-tests false x y s q = refl
+rule-tests true false y s q = refl
+rule-tests true true false s q = refl
+rule-tests true true true false q = refl
+rule-tests true true true true q = refl
+
+-- where a number is no level, the last test does not matter
+wish-tests : (r x l s u v : Bool) (q : M.Plan) → (l ≡ true → u ≡ v)
+    → unless r TOO-MANY (unless (x && l) OUT-OF-RANGE (unless s SAME-EVENT (unless u NOT-PEAKED (taken q)))) ≡ stepOf (tests r x true l s v) q
+wish-tests false x l s u v q e = refl
+wish-tests true false l s u v q e = refl
+wish-tests true true false s u v q e = refl
+wish-tests true true true false u v q e = refl
+wish-tests true true true true u v q e = rw (e refl) (last v)
+  where
+    last : (v : Bool) → unless v NOT-PEAKED (taken q) ≡ stepOf (tests true true true true true v) q
+    last true = refl
+    last false = refl
+
+-- ---- a record, one more of the plan p
+
+room-none : (s : SoFar) → s .levels ≤ MOST-LEVELS-TOGETHER → hasRoom s 0 ≡ ltb (s .records) MOST-RECORDS
+room-none s h = rw (le-leb (s .levels + 0) MOST-LEVELS-TOGETHER (omega arith)) (go (ltb (s .records) MOST-RECORDS))
+  where
+    go : (b : Bool) → b && true && true ≡ b
+    go true = refl
+    go false = refl
+
+module _ (p : M.Plan) (s : SoFar) (k : Counts p (s .events) (s .records) (s .levels)) where
+  pub rule-later : (r : Span) → s .levels ≤ MOST-LEVELS-TOGETHER
+      → laterLine p (ruleLine (r .a) (r .b) (r .lo) (r .hi))
+      ≡ stepOf (entryFault s r []) (withRecord p (M.rule (natAbs (r .a)) (natAbs (r .b)) (r .lo) (r .hi)))
+  unfolding recordFault
+  rule-later r h =
+      let ranged = inRange (p .events) (r .a) (r .b) (r .lo) (r .hi) in
+      let next = withRecord p (M.rule (natAbs (r .a)) (natAbs (r .b)) (r .lo) (r .hi)) in
+      rw (room-none s h, flat, ← k .events, ← k .records)
+      (rule-tests (ltb (length (p .records)) MOST-RECORDS) ranged (leZ (r .lo) (r .hi)) (not (sameEvent (r .a) (r .b))) next)
+
+  pub wish-later : (vs ls : List ℤ)
+      → laterLine p (wishLine (item vs 0) (item vs 1) (item vs 2) ls)
+      ≡ stepOf (entryFault s (wishSpan vs (length ls)) (map levelOf ls))
+      (withRecord p (M.wish (natAbs (item vs 0)) (natAbs (item vs 1)) (item vs 2) (map natAbs ls)))
+  unfolding recordFault
+  wish-later vs ls =
+      let a = item vs 0 in
+      let b = item vs 1 in
+      let lo = item vs 2 in
+      let m = length ls in
+      let room = ltb (length (p .records)) MOST-RECORDS && leb m MOST-LEVELS && leb (levelsTogether (p .records) + m) MOST-LEVELS-TOGETHER in
+      let next = withRecord p (M.wish (natAbs a) (natAbs b) lo (map natAbs ls)) in
+      rw (length-map ls levelOf, range-last (s .events) a b lo m, order-last lo m, levels-as ls, ← k .events, ← k .records, ← k .levels)
+      (wish-tests room (inRange (p .events) a b lo (lastOf lo ls)) (allLevels ls) (not (sameEvent a b)) (peaked (map natAbs ls)) (peaked (map levelOf ls)) next
+      (λ e. ap peaked (sym (levels-same ls e))))
+
+-- ---- the form of a line: what its number and the count of its numbers say comes first
+
+module _ (line : ℕ) (formed : Bool) (p : M.Plan) (f : Form) (k : ℕ) (q : M.Plan) where
+  pub first-step : laterLine p f ≡ fault WRONG-FORM → firstLine f ≡ stepOf k q
+      → lineStep line p (cond formed f wrong) ≡ stepOf (firstFault (unlessMet (eqb line 1 && formed) WRONG-FORM ∷ k ∷ [])) q
   unfolding lineStep
-  ev-line h = rw (ne-eqb line 1 h) (later-not p (eqb (f .count) 2) (eventsLine (item (f .first) 0) (item (f .first) 1)) refl)
+  first-step n e = go (eqb line 1) formed
+    where
+      go : (x y : Bool)
+          → cond x (firstLine (cond y f wrong)) (laterLine p (cond y f wrong)) ≡ stepOf (firstFault (unlessMet (x && y) WRONG-FORM ∷ k ∷ [])) q
+      go true true = rw (only k) e
+      go true false = refl
+      go false true = n
+      go false false = refl
 
-  pub ev-count : (f .count ≡ 2 → ⊥) → lineStep line p (eventsFields f) ≡ fault WRONG-FORM
-  ev-count k = rw (ne-eqb (f .count) 2 k) (step-wrong line p)
-
-  pub ev-step : line ≡ 1 → f .count ≡ 2 → lineStep line p (eventsFields f) ≡ firstLine (eventsLine (item (f .first) 0) (item (f .first) 1))
+  pub later-step : firstLine f ≡ fault WRONG-FORM → laterLine p f ≡ stepOf k q
+      → lineStep line p (cond formed f wrong) ≡ stepOf (firstFault (unlessMet (not (eqb line 1) && formed) WRONG-FORM ∷ k ∷ [])) q
   unfolding lineStep
-  ev-step h k = rw (eq-eqb line 1 h, eq-eqb (f .count) 2 k)
+  later-step n e = go (eqb line 1) formed
+    where
+      go : (x y : Bool)
+          → cond x (firstLine (cond y f wrong)) (laterLine p (cond y f wrong)) ≡ stepOf (firstFault (unlessMet (not x && y) WRONG-FORM ∷ k ∷ [])) q
+      go true true = n
+      go true false = refl
+      go false true = rw (only k) e
+      go false false = refl
 
-  -- ---- `rule`
-  pub rl-line : line ≡ 1 → lineStep line p (ruleFields f) ≡ fault WRONG-FORM
-  unfolding lineStep
-  rl-line h = rw (eq-eqb line 1 h) (first-not (eqb (f .count) 4) (ruleLine (item (f .first) 0) (item (f .first) 1) (item (f .first) 2) (item (f .first) 3)) refl)
+-- ---- what the answer says: a fault, or else what the record or the first line is
 
-  pub rl-count : (f .count ≡ 4 → ⊥) → lineStep line p (ruleFields f) ≡ fault WRONG-FORM
-  rl-count k = rw (ne-eqb (f .count) 4 k) (step-wrong line p)
-
-  pub rl-step : (line ≡ 1 → ⊥) → f .count ≡ 4
-      → lineStep line p (ruleFields f) ≡ laterLine p (ruleLine (item (f .first) 0) (item (f .first) 1) (item (f .first) 2) (item (f .first) 3))
-  unfolding lineStep
-  rl-step h k = rw (ne-eqb line 1 h, eq-eqb (f .count) 4 k)
-
-  -- ---- `wish`
-  pub wi-line : (vs : List ℤ) → line ≡ 1 → lineStep line p (wishFields f vs) ≡ fault WRONG-FORM
-  unfolding lineStep
-  wi-line vs h = rw (eq-eqb line 1 h) (first-not (leb 4 (f .count)) (wishLine (item (f .first) 0) (item (f .first) 1) (item (f .first) 2) (drop 3 vs)) refl)
-
-  pub wi-count : (vs : List ℤ) → f .count < 4 → lineStep line p (wishFields f vs) ≡ fault WRONG-FORM
-  wi-count vs k = rw (lt-leb 4 (f .count) k) (step-wrong line p)
-
-  pub wi-step : (vs : List ℤ) → (line ≡ 1 → ⊥) → 4 ≤ f .count
-      → lineStep line p (wishFields f vs) ≡ laterLine p (wishLine (item (f .first) 0) (item (f .first) 1) (item (f .first) 2) (drop 3 vs))
-  unfolding lineStep
-  wi-step vs h k = rw (ne-eqb line 1 h, le-leb 4 (f .count) k)
-
--- ---- the tests of `events`
-module _ (n h : ℤ) where
-  pub hd-n : between (pos 1) (pos 64) n ≡ false → firstLine (eventsLine n h) ≡ fault OUT-OF-RANGE
-  hd-n a = rw a
-
-  pub hd-h : between (pos 1) (pos 64) n ≡ true → between (pos 0) (pos 100000) h ≡ false → firstLine (eventsLine n h) ≡ fault OUT-OF-RANGE
-  hd-h a b = rw (a, b)
-
-  pub hd-ok : between (pos 1) (pos 64) n ≡ true → between (pos 0) (pos 100000) h ≡ true
-      → firstLine (eventsLine n h) ≡ taken (record { events = natAbs n; horizon = natAbs h; records = [] })
-  hd-ok a b = rw (a, b)
-
--- ---- the tests of `rule`
-module _ (p : M.Plan) (a b lo hi : ℤ) where
-  pub ru-full : 256 ≤ length (p .records) → laterLine p (ruleLine a b lo hi) ≡ fault TOO-MANY
-  ru-full h = rw (le-ltb (length (p .records)) 256 h)
-
-  module _ (few : length (p .records) < 256) where
-    pub ru-range : inRange (p .events) a b lo hi ≡ false → laterLine p (ruleLine a b lo hi) ≡ fault OUT-OF-RANGE
-    ru-range r = rw (lt-ltb (length (p .records)) 256 few, r)
-
-    module _ (r : inRange (p .events) a b lo hi ≡ true) where
-      pub ru-order : leZ lo hi ≡ false → laterLine p (ruleLine a b lo hi) ≡ fault OUT-OF-RANGE
-      ru-order o = rw (lt-ltb (length (p .records)) 256 few, r, o)
-
-      pub ru-same : leZ lo hi ≡ true → sameEvent a b ≡ true → laterLine p (ruleLine a b lo hi) ≡ fault SAME-EVENT
-      ru-same o s = rw (lt-ltb (length (p .records)) 256 few, r, o, s)
-
-      pub ru-ok : leZ lo hi ≡ true → sameEvent a b ≡ false → laterLine p (ruleLine a b lo hi) ≡ taken (withRecord p (M.rule (natAbs a) (natAbs b) lo hi))
-      ru-ok o s = rw (lt-ltb (length (p .records)) 256 few, r, o, s)
-
--- ---- the tests of `wish`
-abbrev pub room : M.Plan → ℕ → Bool
-room p n = ltb (length (p .records)) 256 && leb n 256 && leb (levelsTogether (p .records) + n) 8192
-
-module _ (p : M.Plan) (a b lo : ℤ) (ls : List ℤ) where
-  pub lw-3 : room p (length ls) ≡ false → laterLine p (wishLine a b lo ls) ≡ fault TOO-MANY
-  lw-3 r = rw r
-
-  module _ (r : room p (length ls) ≡ true) where
-    pub lw-end : isEnd lo ≡ false → laterLine p (wishLine a b lo ls) ≡ fault OUT-OF-RANGE
-    lw-end e = rw (r, e, and-false (isEvent (p .events) b), and-false (isEvent (p .events) a))
-
-    pub lw-range : inRange (p .events) a b lo (lastOf lo ls) ≡ false → laterLine p (wishLine a b lo ls) ≡ fault OUT-OF-RANGE
-    lw-range s = rw (r, s)
-
-    module _ (s : inRange (p .events) a b lo (lastOf lo ls) ≡ true) where
-      pub lw-level : allLevels ls ≡ false → laterLine p (wishLine a b lo ls) ≡ fault OUT-OF-RANGE
-      lw-level l = rw (r, s, l)
-
-      module _ (l : allLevels ls ≡ true) where
-        pub lw-same : sameEvent a b ≡ true → laterLine p (wishLine a b lo ls) ≡ fault SAME-EVENT
-        lw-same t = rw (r, s, l, t)
-
-        pub lw-peak : sameEvent a b ≡ false → peaked (map natAbs ls) ≡ false → laterLine p (wishLine a b lo ls) ≡ fault NOT-PEAKED
-        lw-peak t u = rw (r, s, l, t, u)
-
-        pub lw-ok : sameEvent a b ≡ false → peaked (map natAbs ls) ≡ true
-            → laterLine p (wishLine a b lo ls) ≡ taken (withRecord p (M.wish (natAbs a) (natAbs b) lo (map natAbs ls)))
-        lw-ok t u = rw (r, s, l, t, u)
+pub says-gives : (line : ℕ) (f : Form) (n count used : ℕ) (before after : List ℕ) (k : ℕ) (e : Effect) (next : M.Plan → M.Plan)
+    → ((p : M.Plan) → Counts p n count used → lineStep line p f ≡ stepOf k (next p))
+    → ((i : ℕ) → MOST-LEVELS-TOGETHER ≤ i → getD after i 0 ≡ getD before i 0)
+    → (k ≡ NO-FAULT → Says line f n count used before after e)
+    → Says line f n count used before after (gives k e)
+says-gives line f n count used before after zero e next step above whole = whole refl
+says-gives line f n count used before after (suc k) e next step above whole = record { some = omega arith; step = step; above = above }

@@ -1,6 +1,10 @@
 -- What the proofs about a line share.
-pub mod Tests
-pub mod Peaks
+mod Tests
+mod Peaks
+mod Firsts
+mod Wishes
+mod Effects
+-- what other crates may cite
 pub mod Walks
 pub mod Judges
-pub mod Wishes
+pub mod One

@@ -19,7 +19,8 @@ on : (f : Bool) (x z : ℕ) (zs : List ℕ) → f && ltb x z ≡ false → peake
 on true x z zs e = rw (le-leb z x (ltb-false x z e))
 on false x z zs e = refl
 
-module _ (f : Bool) (x : ℕ) (s : List ℕ) (at i end : ℕ) (h : i < end) (l : end ≤ length s) (e : peakedFrom f x (slice i end s) ≡ peaked (slice at end s)) where
+module _ (f : Bool) (x : ℕ) (s : List ℕ) (at i end : ℕ) (h : i < end) (l : end ≤ length s)
+    (e : peakedFrom f x (slice i end s) ≡ peaked (slice at end s)) where
   pub peak-up : f && ltb x (getD s i 0) ≡ true → false ≡ peaked (slice at end s)
   peak-up u = sym (up f x (getD s i 0) (slice (i + 1) end s) u) ∙ (rw (slice-step s i end h l) at e)
 
@@ -30,5 +31,6 @@ pub peak-start : (ls : List ℕ) → peakedFrom false 0 ls ≡ peaked ls
 unfolding peaked
 peak-start ls = refl
 
-pub peak-end : (f : Bool) (x : ℕ) (s : List ℕ) (at i end : ℕ) → i ≡ end → peakedFrom f x (slice i end s) ≡ peaked (slice at end s) → true ≡ peaked (slice at end s)
+pub peak-end : (f : Bool) (x : ℕ) (s : List ℕ) (at i end : ℕ) → i ≡ end
+    → peakedFrom f x (slice i end s) ≡ peaked (slice at end s) → true ≡ peaked (slice at end s)
 peak-end f x s at i end q e = rw (q, slice-empty end s) at e

@@ -17,9 +17,11 @@ use Rattle.text.specs.declared.Word.the-variants.{Events, Rule, Wish, Other}
 use Rattle.text.proofs.Cuts.{cut, cut-in, after-step, after-end, split-until}
 use Rattle.text.proofs.Forms.{events-form, rule-form, wish-form, other-form}
 use Rattle.meaning.specs.Plan.{Plan}
-use Rattle.meaning.specs.Reading.{TAB, LINE-FEED, split, numberOf, numbers, join, Form, wrong, formOf, lineForm, lineStep, readPieces, afterStep, plan, refused}
+use Rattle.meaning.specs.Reading.{TAB, LINE-FEED, split, numberOf, numbers, join, Form, wrong, formOf, lineForm, lineStep}
+use Rattle.meaning.specs.Reading.{readPieces, afterStep, plan, refused}
 use Rattle.meaning.specs.Numbers.{WRONG-FORM}
-use Rattle.line.specs.Lines.{restOf, orNone, Fielded, wordForm}
+use Rattle.line.specs.declared.Field.the-variants.{Number, Wrong}
+use Rattle.line.specs.Lines.{restOf, orNone, Fielded, fieldEnd, FieldRead, wordForm}
 
 -- ---- fields
 
@@ -60,6 +62,14 @@ module _ (s : List ℕ) (p e k : ℕ) (h : p < e) (f : Fielded s p e) (q : k ≡
       go none d = rest-bad d
       go (some v) d = let r = rest-step v d in (ap (drop 1) (r .0), r .1)
 
+-- the same by the answer of `field_after`
+pub rest-number : (s : List ℕ) (p e : ℕ) → p < e → Fielded s p e → (v : ℤ) (k : ℕ) → FieldRead s p e (Number v k)
+    → (restOf (slice p e s) ≡ v ∷ restOf (slice k e s)) × Fielded s k e
+rest-number s p e h f v k r = rest-step s p e k h f (r .0) v (rw (r .0) (r .1))
+
+pub rest-wrong : {A : Type 0} (s : List ℕ) (p e : ℕ) → p < e → Fielded s p e → FieldRead s p e Wrong → A
+rest-wrong s p e h f r = rest-bad s p e (fieldEnd s p e) h f refl r
+
 pub rest-end : (s : List ℕ) (p e : ℕ) → p ≡ e → restOf (slice p e s) ≡ []
 rest-end s p e q = rw (after-end TAB s p e q)
 
@@ -82,7 +92,8 @@ onto-join : (ws : List ℤ) (v : ℤ) (x : Option (List ℤ)) → onto ws (join 
 onto-join ws v none = refl
 onto-join ws v (some vs) = ap some (sym (append-assoc ws (v ∷ []) vs))
 
-module _ (s : List ℕ) (p e k : ℕ) (h : p < e) (l : e ≤ length s) (q : k ≡ p + 1 + until TAB (slice (p + 1) e s)) (ws : List ℤ) (all : Option (List ℤ)) (seen : all ≡ onto ws (numbers (after TAB (slice p e s)))) where
+module _ (s : List ℕ) (p e k : ℕ) (h : p < e) (l : e ≤ length s) (q : k ≡ p + 1 + until TAB (slice (p + 1) e s))
+    (ws : List ℤ) (all : Option (List ℤ)) (seen : all ≡ onto ws (numbers (after TAB (slice p e s)))) where
   pub scan-bad : numberOf (slice (p + 1) k s) ≡ none → all ≡ none
   scan-bad d = seen ∙ rw (fields-step s p e k h l q, d)
 
@@ -130,7 +141,8 @@ module _ (s : List ℕ) (at k line : ℕ) (p : Plan) (h : at < length s) (q : k 
       rw (cut LINE-FEED s at (length s) (omega arith) (omega arith), ← q, after-end LINE-FEED s k (length s) e, ne-eqb (length (slice at k s)) 0 n)
 
   -- the line ends at k
-  pub pieces-step : k < length s → readPieces (split LINE-FEED (slice at (length s) s)) line p ≡ afterStep line (λ (r : Plan). readPieces (split LINE-FEED (slice (k + 1) (length s) s)) (line + 1) r) (lineStep line p (lineForm (slice at k s)))
+  pub pieces-step : k < length s → readPieces (split LINE-FEED (slice at (length s) s)) line p
+      ≡ afterStep line (λ (r : Plan). readPieces (split LINE-FEED (slice (k + 1) (length s) s)) (line + 1) r) (lineStep line p (lineForm (slice at k s)))
   pieces-step e =
       rw (cut LINE-FEED s at (length s) (omega arith) (omega arith), ← q, after-step LINE-FEED s k (length s) e (omega arith))
       (more line p (slice at k s) (split LINE-FEED (slice (k + 1) (length s) s)) LINE-FEED (slice (k + 1) (length s) s) refl)
@@ -140,6 +152,7 @@ pub pieces-end : (s : List ℕ) (at line : ℕ) (p : Plan) → at ≡ length s �
 unfolding split
 pieces-end s at line p e h = rw (e, slice-empty (length s) s, lt-ltb 1 line h)
 
-pub pieces-empty : (s : List ℕ) (at line : ℕ) (p : Plan) → at ≡ length s → line ≡ 1 → readPieces (split LINE-FEED (slice at (length s) s)) line p ≡ refused WRONG-FORM 1
+pub pieces-empty : (s : List ℕ) (at line : ℕ) (p : Plan) → at ≡ length s → line ≡ 1
+    → readPieces (split LINE-FEED (slice at (length s) s)) line p ≡ refused WRONG-FORM 1
 unfolding split
 pieces-empty s at line p e h = rw (e, slice-empty (length s) s, h)

@@ -1,23 +1,21 @@
--- What one line of a text gives: its numbers, its levels, and what it does to the plan read so far.
+-- What one line of a text gives: its numbers, and what it does to the plan read so far.
 use mathlib.Core.Path.{_≡_}
-use mathlib.Core.Bool.{Bool, true, cond}
 use mathlib.Core.Option.{Option, none, some}
-use mathlib.Core.List.{List, [], _∷_, map}
+use mathlib.Core.List.{List, [], _∷_}
 use Prim.Native.Nat.{ℕ, _+_, _≤_, _<_}
-use lib.Dec.{eqb, leb}
 use lib.ListN.{length, getD, set, drop}
 use lib.Seq.{slice, sets}
-use lib.IntN.{ℤ, pos, natAbs}
+use lib.IntN.{ℤ, pos}
 use Rattle.meaning.specs.Plan as M
 use Rattle.meaning.specs.Plan.{MOST-EVENTS, MOST-RECORDS, MOST-LEVELS-TOGETHER}
-use Rattle.meaning.specs.Reading.{TAB, item, numberOf, numbers, allLevels, Form, eventsLine, ruleLine, wishLine, wrong, eventsForm, ruleForm, wishForm, taken, fault, lineStep, withRecord, levelsTogether}
+use Rattle.meaning.specs.Reading.{TAB, item, numberOf, numbers, Form, wrong, eventsForm, ruleForm, wishForm}
+use Rattle.meaning.specs.Reading.{taken, fault, lineStep, withRecord, levelsTogether}
 use Rattle.text.specs.Bytes.{until, after}
 use Rattle.text.specs.Words.{wordOf}
 use Rattle.text.specs.declared.Word.{Word}
 use Rattle.text.specs.declared.Word.the-variants.{Events, Rule, Wish, Other}
 use Rattle.plan.specs.Held.{levelsIn, rowOf}
 use Rattle.plan.specs.declared.Record.{Record}
-use Rattle.line.specs.declared.Fields.{Fields}
 use Rattle.line.specs.declared.Line.{Line}
 use Rattle.line.specs.declared.SoFar.{SoFar}
 use Rattle.line.specs.declared.Field.{Field}
@@ -26,12 +24,6 @@ use Rattle.line.specs.declared.Effect.{Effect}
 use Rattle.line.specs.declared.Effect.the-variants.{Fault, Head, Entry}
 
 -- ---- the numbers of a line
-
--- the numbers of a line: how many there are, and the first four
-pub record Numbers (vs : List ℤ) (f : Fields) : Type 0 where
-  pub count : f .count ≡ length vs
-  pub size : length (f .first) ≡ 4
-  pub at : (k : ℕ) → k < 4 → getD (f .first) k (pos 0) ≡ item vs k
 
 abbrev pub orNone : Option (List ℤ) → List ℤ
 orNone none = []
@@ -47,12 +39,6 @@ pub record Fielded (text : List ℕ) (p end : ℕ) : Type 0 where
   pub within : end ≤ length text
   pub all : numbers (after TAB (slice p end text)) ≡ some (restOf (slice p end text))
 
--- numbers read as levels into the area from place `used` on; where one is no level the area's rest is as before
-pub record LevelsRead (vs : List ℤ) (used : ℕ) (before after : List ℕ) (r : Bool) : Type 0 where
-  pub said : r ≡ allLevels vs
-  pub stored : r ≡ true → after ≡ sets before used (map natAbs vs)
-  pub above : (i : ℕ) → MOST-LEVELS-TOGETHER ≤ i → getD after i 0 ≡ getD before i 0
-
 -- r is the place from which the numbers but the first three are left
 pub record AfterThree (text : List ℕ) (first end r : ℕ) : Type 0 where
   pub fielded : Fielded text r end
@@ -65,20 +51,6 @@ wordForm Events vs = eventsForm vs
 wordForm Rule vs = ruleForm vs
 wordForm Wish vs = wishForm vs
 wordForm Other vs = wrong
-
--- the same by the count of the numbers and the first four
-abbrev pub eventsFields : Fields → Form
-eventsFields f = cond (eqb (f .count) 2) (eventsLine (item (f .first) 0) (item (f .first) 1)) wrong
-
-abbrev pub ruleFields : Fields → Form
-ruleFields f = cond (eqb (f .count) 4) (ruleLine (item (f .first) 0) (item (f .first) 1) (item (f .first) 2) (item (f .first) 3)) wrong
-
-abbrev pub wishFields : Fields → List ℤ → Form
-wishFields f vs = cond (leb 4 (f .count)) (wishLine (item (f .first) 0) (item (f .first) 1) (item (f .first) 2) (drop 3 vs)) wrong
-
--- a record from the numbers of its line: its `count` levels stand from place `first` on
-abbrev pub asRow : ℤ → ℤ → ℕ → ℕ → ℤ → ℤ → Record
-asRow a b first count lo hi = record { a = natAbs a; b = natAbs b; first = first; count = count; lo = lo; hi = hi }
 
 -- ---- what a line does
 

@@ -1,17 +1,20 @@
 // What one line of a text gives: its fields, the tests of section 3 in their order, and the record that it adds to the plan.
 ghost use mathlib.Core.Path.{_≡_};
-ghost use mathlib.Core.Bool.{true, _&&_, _||_};
-ghost use mathlib.Core.List.{List, [], _∷_, _++_};
-ghost use Prim.Native.Nat.{ℕ, _+_, _-_, _≤_, _<_};
+ghost use mathlib.Core.Bool.{_&&_, _||_};
+ghost use mathlib.Core.List.{[], map};
+ghost use Prim.Native.Nat.{_+_, _-_, _≤_, _<_};
 ghost use lib.ListN.{length};
-ghost use lib.Seq.{slice};
-ghost use lib.Dec.{T, ltb, leb};
-ghost use lib.IntN.{ℤ, pos, natAbs, _+ℤ_};
-ghost use lib.Signed.{nonNeg};
-ghost use Rattle.meaning.specs.Plan.{MOST-EVENTS, MOST-RECORDS, MOST-LEVELS, MOST-LEVELS-TOGETHER, MOST-BYTES};
+ghost use lib.Seq.{slice, sets};
+ghost use lib.Dec.{ltb};
+ghost use lib.IntN.{natAbs};
+ghost use Rattle.meaning.specs.Plan.{MOST-EVENTS, MOST-LEVELS, MOST-LEVELS-TOGETHER, MOST-BYTES};
 ghost use Rattle.meaning.specs.Peak.{peaked};
-ghost use Rattle.meaning.specs.Reading.{between, isEvent, isEnd, isLevel, inRange};
-ghost use Rattle.line.specs.Lines.{Numbers, restOf, Fielded, LevelsRead, AfterThree, Says, eventsFields, ruleFields, wishFields, wordForm, asRow, begun, withNumber, FieldRead, Whole, Room, Gives};
+ghost use Rattle.meaning.specs.Reading.{between, isEvent, isEnd, inRange};
+ghost use Rattle.line.specs.Lines.{restOf, Fielded, AfterThree, begun, withNumber, FieldRead, Whole, Room, Gives};
+ghost use Rattle.line.specs.declared.Effect.the-variants.{Head};
+ghost use Rattle.line.specs.Faults.{NO-FAULT, levelOf, areLevels, lastFrom, spanOf, wishSpan, rowFrom, Fitting};
+ghost use Rattle.line.specs.Faults.{hasRoom, headFault, recordFault, isHead, isRule, isWish, Roomy};
+ghost use Rattle.line.specs.Faults.{eventsEffect, ruleEffect, wishEffect, Stored, WishTaken};
 use plan::Record;
 use scope::MOST_END;
 use scope::MOST_HORIZON;
@@ -28,103 +31,16 @@ use text::Word;
 
 const TAB: u8 = 9;
 
+// What a test gives that finds no fault.
+const NO_FAULT: u8 = 0;
+
 // A field is a signed number, so these two limits are met as such.
 const MOST_EVENTS: i32 = scope::MOST_EVENTS as i32;
 
 const TOP_LEVEL: i32 = scope::TOP_LEVEL as i32;
 
-// v lies between lo and hi.
-fn is_between(lo: i32, hi: i32, v: i32) -> bool
-    ensures { λ r. ⌜ r ≡ between lo hi v ⌝ }
-{
-    if lo <= v { v <= hi } else { false }
-}
-
-// v is one of the events 0 to n - 1.
-fn is_event(n: usize, v: i32) -> bool
-    requires { ⌜ n ≤ MOST-EVENTS ⌝ }
-    ensures { λ r. ⌜ r ≡ isEvent n v ⌝ }
-{
-    if 0 <= v { v < (n as i32) } else { false }
-}
-
-fn is_end(v: i32) -> bool
-    ensures { λ r. ⌜ r ≡ isEnd v ⌝ }
-{
-    is_between(-MOST_END, MOST_END, v)
-}
-
-// The two events and the two ends of a record.
-fn in_range(n: usize, a: i32, b: i32, lo: i32, hi: i32) -> bool
-    requires { ⌜ n ≤ MOST-EVENTS ⌝ }
-    ensures { λ r. ⌜ r ≡ inRange n a b lo hi ⌝ }
-{
-    if !is_event(n, a) {
-        return false;
-    }
-    if !is_event(n, b) {
-        return false;
-    }
-    if !is_end(lo) {
-        return false;
-    }
-    is_end(hi)
-}
-
-// A number that is not below zero.
-fn size_of(v: i32) -> usize
-    requires { ⌜ T (nonNeg v) ⌝ }
-    ensures { λ r. ⌜ r ≡ natAbs v ⌝ }
-{
-    v as usize
-}
-
-// The distance of the last of n levels.
-fn last_of(lo: i32, n: usize) -> i32
-    requires { ⌜ (isEnd lo ≡ true) × (1 ≤ n) × (n ≤ MOST-LEVELS) ⌝ }
-    ensures { λ r. ⌜ r ≡ lo +ℤ pos (n - 1) ⌝ }
-{
-    lo + ((n - 1) as i32)
-}
-
-// A level z after x that is up again after a fall.
-fn up_again(fallen: bool, x: u8, z: u8) -> bool
-    ensures { λ r. ⌜ r ≡ (fallen && ltb x z) ⌝ }
-{
-    if fallen { x < z } else { false }
-}
-
-fn has_fallen(fallen: bool, x: u8, z: u8) -> bool
-    ensures { λ r. ⌜ r ≡ (fallen || ltb z x) ⌝ }
-{
-    if fallen { true } else { z < x }
-}
-
-// The levels from at up to end are single-peaked.
-fn is_peaked(levels: &[u8], at: usize, end: usize) -> bool
-    requires { ⌜ (at ≤ end) × (end ≤ length (now levels)) ⌝ }
-    ensures { λ r. ⌜ r ≡ peaked (slice at end (now (levels .entry))) ⌝ }
-{
-    let mut fallen = false;
-    let mut x: u8 = 0;
-    let mut i = at;
-    while i < end {
-        let z = levels[i];
-        if up_again(fallen, x, z) {
-            return false;
-        }
-        fallen = has_fallen(fallen, x, z);
-        x = z;
-        i += 1;
-    }
-    true
-}
-
-// How many numbers a line has, and the first four of them.
-struct Fields {
-    count: usize,
-    first: [i32; 4],
-}
+// How a number is stored that is no level.
+const NO_LEVEL: u8 = scope::TOP_LEVEL + 1;
 
 // A line as far as it is read: its number, its word, the place where its word ends, the place where it ends, how many numbers were read, and the
 // first four of them.
@@ -149,6 +65,15 @@ pub enum Field {
     Number(i32, usize),
     Wrong,
 }
+
+// What a line gives: a fault, the number of events and the horizon, or one record more.
+pub enum Effect {
+    Fault(u8),
+    Head(usize, u32),
+    Entry(Record),
+}
+
+// ---- the fields of a line
 
 // The line from `at` up to `end`, none of its numbers read.
 pub fn begin(text: &[u8], number: usize, at: usize, end: usize) -> Line
@@ -194,37 +119,41 @@ pub fn with_number(line: Line, v: i32) -> Line
     more
 }
 
-fn level_of(v: i32) -> u8
-    requires { ⌜ isLevel v ≡ true ⌝ }
-    ensures { λ r. ⌜ r ≡ natAbs v ⌝ }
+// ---- the tests of a number
+
+// v lies between lo and hi.
+fn is_between(lo: i32, hi: i32, v: i32) -> bool
+    ensures { λ r. ⌜ r ≡ between lo hi v ⌝ }
 {
-    v as u8
+    if lo <= v { v <= hi } else { false }
 }
 
-// The numbers from `from` on, stored as levels from place `used` on; false where one is no level.
-fn read_levels(text: &[u8], from: usize, end: usize, levels: &mut [u8], used: usize) -> bool
-    requires { ⌜ Fielded (now text) from end × (used + length (restOf (slice from end (now text))) ≤ MOST-LEVELS-TOGETHER) × (MOST-LEVELS-TOGETHER ≤ length (now levels)) ⌝ }
-    ensures { λ r. ⌜ LevelsRead (restOf (slice from end (now (text .entry)))) used (now (levels .entry)) (now (levels .exit)) r ⌝ }
+// v is one of the events 0 to n - 1.
+fn is_event(n: usize, v: i32) -> bool
+    requires { ⌜ n ≤ MOST-EVENTS ⌝ }
+    ensures { λ r. ⌜ r ≡ isEvent n v ⌝ }
 {
-    let mut p = from;
-    let mut k = used;
-    while p < end {
-        let next = text::find(text, p + 1, end, TAB);
-        match text::read_number(text, p + 1, next) {
-            Number::Value(v) => {
-                if !is_between(0, TOP_LEVEL, v) {
-                    return false;
-                }
-                levels[k] = level_of(v);
-            }
-            Number::Stopped(_) => {
-                return false;
-            }
-        }
-        k += 1;
-        p = next;
+    if 0 <= v { v < widths::to_i32(n) } else { false }
+}
+
+// v may be an end of a span.
+fn is_end(v: i32) -> bool
+    ensures { λ r. ⌜ r ≡ isEnd v ⌝ }
+{
+    is_between(-MOST_END, MOST_END, v)
+}
+
+// ---- the levels of a wish
+
+// A number as a level; one that is none is stored as one above the top.
+fn level_of(v: i32) -> u8
+    ensures { λ r. ⌜ r ≡ levelOf v ⌝ }
+{
+    if is_between(0, TOP_LEVEL, v) {
+        widths::to_u8(widths::from_i32(v))
+    } else {
+        NO_LEVEL
     }
-    true
 }
 
 // The place after the first three numbers.
@@ -237,167 +166,334 @@ fn after_three(text: &[u8], first: usize, end: usize) -> usize
     text::find(text, q + 1, end, TAB)
 }
 
-// What a line gives: a fault, the number of events and the horizon, or one record more.
-pub enum Effect {
-    Fault(u8),
-    Head(usize, u32),
-    Entry(Record),
+// The numbers of a line from place `from` on, stored as levels from place `used` on.
+fn read_levels(text: &[u8], from: usize, end: usize, levels: &mut [u8], used: usize)
+    requires { ⌜ Fielded (now text) from end × (used + length (restOf (slice from end (now text))) ≤ MOST-LEVELS-TOGETHER)
+        × (MOST-LEVELS-TOGETHER ≤ length (now levels)) ⌝ }
+    ensures { λ r. ⌜ now (levels .exit) ≡ sets (now (levels .entry)) used (map levelOf (restOf (slice from end (now (text .entry))))) ⌝ }
+{
+    let mut p = from;
+    let mut k = used;
+    while p < end {
+        match field_after(text, p, end) {
+            Field::Number(v, next) => {
+                levels[k] = level_of(v);
+                p = next;
+            }
+            Field::Wrong => {
+                return;
+            }
+        }
+        k += 1;
+    }
 }
 
-// A record from the numbers of its line.
-fn row_of(n: usize, a: i32, b: i32, first: usize, count: usize, lo: i32, hi: i32) -> Record
-    requires { ⌜ (inRange n a b lo hi ≡ true) × (n ≤ MOST-EVENTS) × (first ≤ MOST-LEVELS-TOGETHER) × (count ≤ MOST-LEVELS) ⌝ }
-    ensures { λ r. ⌜ r ≡ asRow a b first count lo hi ⌝ }
+// The levels from at up to end are allowed ones.
+fn are_levels(levels: &[u8], at: usize, end: usize) -> bool
+    requires { ⌜ (at ≤ end) × (end ≤ length (now levels)) ⌝ }
+    ensures { λ r. ⌜ r ≡ areLevels (slice at end (now (levels .entry))) ⌝ }
 {
-    Record {
-        a: size_of(a) as u8,
-        b: size_of(b) as u8,
-        first: first as u16,
-        count: count as u16,
-        lo: lo,
-        hi: hi,
+    let mut k = at;
+    while k < end {
+        if scope::TOP_LEVEL < levels[k] {
+            return false;
+        }
+        k += 1;
+    }
+    true
+}
+
+// A level z after x that is up again after a fall.
+fn up_again(fallen: bool, x: u8, z: u8) -> bool
+    ensures { λ r. ⌜ r ≡ (fallen && ltb x z) ⌝ }
+{
+    if fallen { x < z } else { false }
+}
+
+// The levels have gone down somewhere up to z.
+fn has_fallen(fallen: bool, x: u8, z: u8) -> bool
+    ensures { λ r. ⌜ r ≡ (fallen || ltb z x) ⌝ }
+{
+    if fallen { true } else { z < x }
+}
+
+// The levels from at up to end are single-peaked.
+fn is_peaked(levels: &[u8], at: usize, end: usize) -> bool
+    requires { ⌜ (at ≤ end) × (end ≤ length (now levels)) ⌝ }
+    ensures { λ r. ⌜ r ≡ peaked (slice at end (now (levels .entry))) ⌝ }
+{
+    let mut fallen = false;
+    let mut x: u8 = 0;
+    let mut i = at;
+    while i < end {
+        let z = levels[i];
+        if up_again(fallen, x, z) {
+            return false;
+        }
+        fallen = has_fallen(fallen, x, z);
+        x = z;
+        i += 1;
+    }
+    true
+}
+
+// ---- the numbers of a record
+
+// The two events and the two ends of a record.
+struct Span {
+    a: i32,
+    b: i32,
+    lo: i32,
+    hi: i32,
+}
+
+// The first four numbers of a line, as the numbers of a rule.
+fn span_of(line: Line) -> Span
+    requires { ⌜ length (line .fields) ≡ 4 ⌝ }
+    ensures { λ r. ⌜ r ≡ spanOf (line .fields) ⌝ }
+{
+    Span {
+        a: line.fields[0],
+        b: line.fields[1],
+        lo: line.fields[2],
+        hi: line.fields[3],
     }
 }
 
-// The line `events`.
-fn take_events(line: usize, f: Fields) -> Effect
-    requires { ⌜ length (f .first) ≡ 4 ⌝ }
-    ensures { λ r. ⌜ ((n count used : ℕ) (levels : List ℕ) → Says line (eventsFields f) n count used levels levels r) ⌝ }
+// The distance of the last of m levels; where lo is out of range no sum is made, since that alone is the fault.
+fn last_of(lo: i32, m: usize) -> i32
+    requires { ⌜ (1 ≤ m) × (m ≤ MOST-LEVELS) ⌝ }
+    ensures { λ r. ⌜ r ≡ lastFrom lo m ⌝ }
 {
-    if line != 1 {
-        return Effect::Fault(WRONG_FORM);
+    if is_end(lo) {
+        ticks::plus(lo, widths::to_i32(m - 1))
+    } else {
+        lo
     }
-    let c = f.count;
-    if c != 2 {
-        return Effect::Fault(WRONG_FORM);
-    }
-    let n = f.first[0];
-    let h = f.first[1];
-    if !is_between(1, MOST_EVENTS, n) {
-        return Effect::Fault(OUT_OF_RANGE);
-    }
-    if !is_between(0, MOST_HORIZON, h) {
-        return Effect::Fault(OUT_OF_RANGE);
-    }
-    Effect::Head(size_of(n), size_of(h) as u32)
 }
 
-// A line `rule`, after `count` records with `used` levels together.
-fn take_rule(line: usize, f: Fields, n: usize, count: usize, used: usize) -> Effect
-    requires { ⌜ (length (f .first) ≡ 4) × (n ≤ MOST-EVENTS) × (used ≤ MOST-LEVELS-TOGETHER) ⌝ }
-    ensures { λ r. ⌜ ((levels : List ℕ) → Says line (ruleFields f) n count used levels levels r) ⌝ }
+// The first three numbers of a line, as those of a wish with m levels.
+fn wish_span(line: Line, m: usize) -> Span
+    requires { ⌜ (length (line .fields) ≡ 4) × (1 ≤ m) × (m ≤ MOST-LEVELS) ⌝ }
+    ensures { λ r. ⌜ r ≡ wishSpan (line .fields) m ⌝ }
 {
-    if line == 1 {
-        return Effect::Fault(WRONG_FORM);
-    }
-    let c = f.count;
-    if c != 4 {
-        return Effect::Fault(WRONG_FORM);
-    }
-    if MOST_RECORDS <= count {
-        return Effect::Fault(TOO_MANY);
-    }
-    let a = f.first[0];
-    let b = f.first[1];
-    let lo = f.first[2];
-    let hi = f.first[3];
-    if !in_range(n, a, b, lo, hi) {
-        return Effect::Fault(OUT_OF_RANGE);
-    }
-    if !ticks::at_most(lo, hi) {
-        return Effect::Fault(OUT_OF_RANGE);
-    }
-    if ticks::equal(a, b) {
-        return Effect::Fault(SAME_EVENT);
-    }
-    Effect::Entry(row_of(n, a, b, used, 0, lo, hi))
+    let mut span = span_of(line);
+    span.hi = last_of(span.lo, m);
+    span
 }
 
-// One wish more, with m levels, is within the limits of their numbers.
-fn has_room(count: usize, used: usize, m: usize) -> bool
-    requires { ⌜ used ≤ MOST-LEVELS-TOGETHER ⌝ }
-    ensures { λ r. ⌜ r ≡ (ltb count MOST-RECORDS && leb m MOST-LEVELS && leb (used + m) MOST-LEVELS-TOGETHER) ⌝ }
+// Its events are those of the plan, and its ends are within their limits.
+fn in_range(n: usize, span: Span) -> bool
+    requires { ⌜ n ≤ MOST-EVENTS ⌝ }
+    ensures { λ r. ⌜ r ≡ inRange n (span .a) (span .b) (span .lo) (span .hi) ⌝ }
 {
-    if MOST_RECORDS <= count {
+    if !is_event(n, span.a) {
+        return false;
+    }
+    if !is_event(n, span.b) {
+        return false;
+    }
+    if !is_end(span.lo) {
+        return false;
+    }
+    is_end(span.hi)
+}
+
+// ---- the faults
+
+// One record more, with m levels, is within the limits of their numbers.
+fn has_room(plan: SoFar, m: usize) -> bool
+    requires { ⌜ plan .levels ≤ MOST-LEVELS-TOGETHER ⌝ }
+    ensures { λ r. ⌜ r ≡ hasRoom plan m ⌝ }
+{
+    if MOST_RECORDS <= plan.records {
         return false;
     }
     if MOST_WISH_LEVELS < m {
         return false;
     }
-    used + m <= MOST_LEVELS
+    plan.levels + m <= MOST_LEVELS
 }
 
-// A line `wish`, after `count` records with `used` levels together.
-fn take_wish(
-    line: usize,
-    f: Fields,
-    n: usize,
-    count: usize,
-    used: usize,
-    text: &[u8],
-    first: usize,
-    end: usize,
-    levels: &mut [u8],
-) -> Effect
-    requires { ⌜ Fielded (now text) first end × Numbers (restOf (slice first end (now text))) f × (n ≤ MOST-EVENTS) × (used ≤ MOST-LEVELS-TOGETHER) × (MOST-LEVELS-TOGETHER ≤ length (now levels)) ⌝ }
-    ensures { λ r. ⌜ Says line (wishFields f (restOf (slice first end (now (text .entry))))) n count used (now (levels .entry)) (now (levels .exit)) r ⌝ }
+// The fault of n events and the horizon h.
+fn head_fault(n: i32, h: i32) -> u8
+    ensures { λ r. ⌜ r ≡ headFault n h ⌝ }
 {
-    if line == 1 {
+    if !is_between(1, MOST_EVENTS, n) {
+        return OUT_OF_RANGE;
+    }
+    if is_between(0, MOST_HORIZON, h) {
+        NO_FAULT
+    } else {
+        OUT_OF_RANGE
+    }
+}
+
+// The first fault of a rule.
+fn rule_fault(n: usize, span: Span) -> u8
+    requires { ⌜ n ≤ MOST-EVENTS ⌝ }
+    ensures { λ r. ⌜ r ≡ recordFault n span [] ⌝ }
+{
+    if !in_range(n, span) {
+        return OUT_OF_RANGE;
+    }
+    if !ticks::at_most(span.lo, span.hi) {
+        return OUT_OF_RANGE;
+    }
+    if ticks::equal(span.a, span.b) {
+        SAME_EVENT
+    } else {
+        NO_FAULT
+    }
+}
+
+// The first fault of a wish, whose levels stand from at up to end.
+fn wish_fault(n: usize, span: Span, levels: &[u8], at: usize, end: usize) -> u8
+    requires { ⌜ (n ≤ MOST-EVENTS) × (at ≤ end) × (end ≤ length (now levels)) ⌝ }
+    ensures { λ r. ⌜ r ≡ recordFault n span (slice at end (now (levels .entry))) ⌝ }
+{
+    if !are_levels(levels, at, end) {
+        return OUT_OF_RANGE;
+    }
+    let fault = rule_fault(n, span);
+    if fault != NO_FAULT {
+        return fault;
+    }
+    if is_peaked(levels, at, end) {
+        NO_FAULT
+    } else {
+        NOT_PEAKED
+    }
+}
+
+// ---- what a line gives
+
+// A record without fault, its `count` levels from place `first` on.
+fn row_of(span: Span, first: usize, count: usize) -> Record
+    requires { ⌜ Fitting span × (first ≤ MOST-LEVELS-TOGETHER) × (count ≤ MOST-LEVELS) ⌝ }
+    ensures { λ r. ⌜ r ≡ rowFrom span first count ⌝ }
+{
+    Record {
+        a: widths::to_u8(widths::from_i32(span.a)),
+        b: widths::to_u8(widths::from_i32(span.b)),
+        first: widths::to_u16(first),
+        count: widths::to_u16(count),
+        lo: span.lo,
+        hi: span.hi,
+    }
+}
+
+// The form of line 1: two numbers.
+fn is_head(line: Line) -> bool
+    ensures { λ r. ⌜ r ≡ isHead line ⌝ }
+{
+    if line.number != 1 {
+        return false;
+    }
+    line.count == 2
+}
+
+// The form of a later line `rule`: four numbers.
+fn is_rule(line: Line) -> bool
+    ensures { λ r. ⌜ r ≡ isRule line ⌝ }
+{
+    if line.number == 1 {
+        return false;
+    }
+    line.count == 4
+}
+
+// The form of a later line `wish`: three numbers and one or more levels.
+fn is_wish(line: Line) -> bool
+    ensures { λ r. ⌜ r ≡ isWish line ⌝ }
+{
+    if line.number == 1 {
+        return false;
+    }
+    4 <= line.count
+}
+
+// The number of events and the horizon, both in range.
+fn head_of(n: i32, h: i32) -> Effect
+    requires { ⌜ headFault n h ≡ NO-FAULT ⌝ }
+    ensures { λ r. ⌜ r ≡ Head (natAbs n) (natAbs h) ⌝ }
+{
+    Effect::Head(widths::from_i32(n), widths::to_u32(widths::from_i32(h)))
+}
+
+// The line `events`.
+fn take_events(line: Line) -> Effect
+    requires { ⌜ length (line .fields) ≡ 4 ⌝ }
+    ensures { λ r. ⌜ r ≡ eventsEffect line ⌝ }
+{
+    if !is_head(line) {
         return Effect::Fault(WRONG_FORM);
     }
-    let c = f.count;
-    if c < 4 {
+    let n = line.fields[0];
+    let h = line.fields[1];
+    let fault = head_fault(n, h);
+    if fault != NO_FAULT {
+        return Effect::Fault(fault);
+    }
+    head_of(n, h)
+}
+
+// A line `rule`.
+fn take_rule(line: Line, plan: SoFar) -> Effect
+    requires { ⌜ (length (line .fields) ≡ 4) × Room plan ⌝ }
+    ensures { λ r. ⌜ r ≡ ruleEffect line plan ⌝ }
+{
+    if !is_rule(line) {
         return Effect::Fault(WRONG_FORM);
     }
-    let m = c - 3;
-    if !has_room(count, used, m) {
+    if !has_room(plan, 0) {
         return Effect::Fault(TOO_MANY);
     }
-    let a = f.first[0];
-    let b = f.first[1];
-    let lo = f.first[2];
-    if !is_end(lo) {
-        return Effect::Fault(OUT_OF_RANGE);
+    let span = span_of(line);
+    let fault = rule_fault(plan.events, span);
+    if fault != NO_FAULT {
+        return Effect::Fault(fault);
     }
-    let hi = last_of(lo, m);
-    if !in_range(n, a, b, lo, hi) {
-        return Effect::Fault(OUT_OF_RANGE);
-    }
-    let p = after_three(text, first, end);
-    if !read_levels(text, p, end, levels, used) {
-        return Effect::Fault(OUT_OF_RANGE);
-    }
-    if ticks::equal(a, b) {
-        return Effect::Fault(SAME_EVENT);
-    }
-    if !is_peaked(levels, used, used + m) {
-        return Effect::Fault(NOT_PEAKED);
-    }
-    Effect::Entry(row_of(n, a, b, used, m, lo, hi))
+    Effect::Entry(row_of(span, plan.levels, 0))
 }
 
-// A line whose fields but the first are numbers.
-fn take_line(
-    line: usize,
-    word: Word,
-    f: Fields,
-    n: usize,
-    count: usize,
-    used: usize,
-    text: &[u8],
-    first: usize,
-    end: usize,
-    levels: &mut [u8],
-) -> Effect
-    requires { ⌜ Fielded (now text) first end × Numbers (restOf (slice first end (now text))) f × (n ≤ MOST-EVENTS) × (used ≤ MOST-LEVELS-TOGETHER) × (MOST-LEVELS-TOGETHER ≤ length (now levels)) ⌝ }
-    ensures { λ r. ⌜ Says line (wordForm word (restOf (slice first end (now (text .entry))))) n count used (now (levels .entry)) (now (levels .exit)) r ⌝ }
+// What a wish gives whose levels are stored behind those of the others.
+fn wish_effect(line: Line, plan: SoFar, levels: &[u8]) -> Effect
+    requires { ⌜ (length (line .fields) ≡ 4) × Room plan × Roomy line plan × (MOST-LEVELS-TOGETHER ≤ length (now levels)) ⌝ }
+    ensures { λ r. ⌜ r ≡ wishEffect line plan (slice (plan .levels) (plan .levels + (line .count - 3)) (now (levels .entry))) ⌝ }
 {
-    match word {
-        Word::Events => take_events(line, f),
-        Word::Rule => take_rule(line, f, n, count, used),
-        Word::Wish => take_wish(line, f, n, count, used, text, first, end, levels),
-        Word::Other => Effect::Fault(WRONG_FORM),
+    let m = line.count - 3;
+    let at = plan.levels;
+    let span = wish_span(line, m);
+    let fault = wish_fault(plan.events, span, levels, at, at + m);
+    if fault != NO_FAULT {
+        return Effect::Fault(fault);
     }
+    Effect::Entry(row_of(span, at, m))
+}
+
+// A wish for which there is room: its levels are stored whatever they are, and tested where they stand.
+fn store_wish(text: &[u8], line: Line, plan: SoFar, levels: &mut [u8]) -> Effect
+    requires { ⌜ Whole (now text) line × Room plan × Roomy line plan × (MOST-LEVELS-TOGETHER ≤ length (now levels)) ⌝ }
+    ensures { λ r. ⌜ Stored (now (text .entry)) line plan (now (levels .entry)) (now (levels .exit)) r ⌝ }
+{
+    let from = after_three(text, line.first, line.end);
+    read_levels(text, from, line.end, levels, plan.levels);
+    wish_effect(line, plan, levels)
+}
+
+// A line `wish`.
+fn take_wish(text: &[u8], line: Line, plan: SoFar, levels: &mut [u8]) -> Effect
+    requires { ⌜ Whole (now text) line × Room plan × (MOST-LEVELS-TOGETHER ≤ length (now levels)) ⌝ }
+    ensures { λ r. ⌜ WishTaken (now (text .entry)) line plan (now (levels .entry)) (now (levels .exit)) r ⌝ }
+{
+    if !is_wish(line) {
+        return Effect::Fault(WRONG_FORM);
+    }
+    if !has_room(plan, line.count - 3) {
+        return Effect::Fault(TOO_MANY);
+    }
+    store_wish(text, line, plan, levels)
 }
 
 // What a line gives whose numbers are all read: the tests of section 3 in their order. The levels of a wish are stored behind those of the others.
@@ -406,21 +502,10 @@ pub fn take(text: &[u8], line: Line, plan: SoFar, levels: &mut [u8]) -> Effect
     ensures { λ r. ⌜ Gives (now (text .entry)) line plan (now (levels .entry)) (now (levels .exit)) r ⌝ }
 {
     let word = line.word;
-    let four = line.fields;
-    let f = Fields {
-        count: line.count,
-        first: four,
-    };
-    take_line(
-        line.number,
-        word,
-        f,
-        plan.events,
-        plan.records,
-        plan.levels,
-        text,
-        line.first,
-        line.end,
-        levels,
-    )
+    match word {
+        Word::Events => take_events(line),
+        Word::Rule => take_rule(line, plan),
+        Word::Wish => take_wish(text, line, plan, levels),
+        Word::Other => Effect::Fault(WRONG_FORM),
+    }
 }

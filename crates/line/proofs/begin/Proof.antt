@@ -1,5 +1,4 @@
 -- `line::begin` meets its contract: the first tab, or the end, is where the word ends.
-use Prim.Native.Nat.{_≤_}
 use native.Mathlib.Omega.{arith}
 use Rattle.meaning.specs.Reading.{TAB}
 use Rattle.text.proofs.Cuts.{cut-in}

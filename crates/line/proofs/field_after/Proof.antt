@@ -1,8 +1,7 @@
 -- `line::field_after` meets its contract: the next tab, or the end, is where the field ends, and `read_number` says what stands before it.
-use mathlib.Core.Path.{_≡_, refl, sym, ap, _∙_}
+use mathlib.Core.Path.{refl, sym, ap, _∙_}
 use Prim.Native.Nat.{_+_, _≤_}
 use native.Mathlib.Omega.{arith}
-use lib.ListN.{length}
 use mir.Facts.{toZ-ofZ}
 use mir.Syntax.{w32}
 use mir.Val.{SFits}

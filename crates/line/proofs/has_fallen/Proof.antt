@@ -1,4 +1,4 @@
--- `plan::has_fallen` meets its contract: by the flag.
+-- `line::has_fallen` meets its contract: by the flag.
 use borrow.Author.Needs.{needs}
 use Rattle.line.proofs.has_fallen.Statement.{statement}
 use Rattle.line.proofs.has_fallen.Tie as tie

@@ -1,4 +1,4 @@
--- `plan::is_end` meets its contract: what the call answers.
+-- `line::is_end` meets its contract: what the call answers.
 use mir.Facts.{toZ-ofZ}
 use borrow.Author.Needs.{needs}
 use Rattle.line.proofs.is_end.Statement.{statement}

@@ -1,4 +1,4 @@
--- `plan::is_peaked` meets its contract: the one pass from here on gives what the whole gives.
+-- `line::is_peaked` meets its contract: the one pass from here on gives what the whole gives.
 use mathlib.Core.Path.{_≡_, sym, _∙_}
 use Prim.Native.Nat.{_-_, _≤_}
 use native.Mathlib.Omega.{arith}
@@ -15,6 +15,9 @@ Inv-loop levels at end fallen₀ x₀ i₀ fallen x i = (i ≤ end) × (peakedFr
 abbrev μ-loop : tie.MeasureT-loop
 μ-loop levels at end fallen₀ x₀ i₀ fallen x i = end - i
 
+abbrev start : tie.At-loop Inv-loop μ-loop → tie.Start Inv-loop μ-loop
+start c = c .before .before
+
 loop-holds : tie.Need-loop-holds Inv-loop μ-loop
 loop-holds c = (omega arith, peak-start _)
 
@@ -26,10 +29,11 @@ up-again-requires c κs = search needs
 
 returns : tie.Need-returns Inv-loop μ-loop
 returns c =
-    let l = c .before .before .before .before .loop in
-    let a = c .before .before .before .before .before .before in
-    peak-up (l .fallen) (l .x) (a .args .levels .now) (a .args .at) (l .i) (a .args .end)
-    (c .before .before .before .loop-test .taken) (a .pre .1) (l .inv .1) (sym (c .before .up-again .ensures) ∙ c .if1 .taken)
+    let in-loop = c .before .before .before in
+    let l = in-loop .before .loop in
+    let s = start (in-loop .before) in
+    peak-up (l .fallen) (l .x) (s .args .levels .now) (s .args .at) (l .i) (s .args .end)
+    (in-loop .loop-test .taken) (s .pre .1) (l .inv .1) (sym (c .before .up-again .ensures) ∙ c .if1 .taken)
 
 has-fallen-requires : tie.Need-has-fallen-requires Inv-loop μ-loop
 has-fallen-requires c κs = search needs
@@ -42,19 +46,20 @@ loop-less c = omega arith
 
 loop-again : tie.Need-loop-again Inv-loop μ-loop
 loop-again c =
-    let l = c .before .before .before .before .before .loop in
-    let a = c .before .before .before .before .before .before .before in (
-      omega (arith, c .before .before .before .before .loop-test .taken),
+    let in-loop = c .before .before .before .before in
+    let l = in-loop .before .loop in
+    let s = start (in-loop .before) in
+    let flat = sym (c .before .before .up-again .ensures) ∙ c .before .if1 .left in (
+      omega (arith, in-loop .loop-test .taken),
       rw (c .has-fallen .ensures)
-          (peak-on (l .fallen) (l .x) (a .args .levels .now) (a .args .at) (l .i) (a .args .end)
-          (c .before .before .before .before .loop-test .taken) (a .pre .1) (l .inv .1) (sym (c .before .before .up-again .ensures) ∙ c .before .if1 .left)),
+          (peak-on (l .fallen) (l .x) (s .args .levels .now) (s .args .at) (l .i) (s .args .end) (in-loop .loop-test .taken) (s .pre .1) (l .inv .1) flat),
     )
 
 returns-2 : tie.Need-returns-2 Inv-loop μ-loop
 returns-2 c =
     let l = c .before .loop in
-    let a = c .before .before .before in
-    peak-end (l .fallen) (l .x) (a .args .levels .now) (a .args .at) (l .i) (a .args .end) (omega (arith, c .loop-test .left, l .inv .0)) (l .inv .1)
+    let s = start (c .before) in
+    peak-end (l .fallen) (l .x) (s .args .levels .now) (s .args .at) (l .i) (s .args .end) (omega (arith, c .loop-test .left, l .inv .0)) (l .inv .1)
 
 pub is-peaked-spec : {M : Type 1} → statement M
 is-peaked-spec =

@@ -1,42 +1,61 @@
--- `plan::row_of` meets its contract: events in range and the places of levels fit their fields.
-use mathlib.Core.Path.{_≡_}
+-- `line::row_of` meets its contract: its events and the places of its levels fit their fields.
+use mathlib.Core.Path.{_≡_, _∙_}
 use native.Mathlib.Omega.{arith}
 use lib.IntN.{natAbs}
-use mir.Facts.{toZ-ofZ}
-use Rattle.meaning.proofs.Tests.{event-below, in-range}
-use Rattle.line.proofs.Tests.{event-sign}
+use mir.Syntax.{w32}
 use borrow.Author.Needs.{needs}
+use Rattle.ticks.proofs.Ticks.{back}
 use Rattle.line.proofs.row_of.Statement.{statement}
 use Rattle.line.proofs.row_of.Tie as tie
 
-a-is : (c : tie.After-size-of) → c .size-of .result ≡ natAbs (c .before .args .a)
-a-is c = rw (toZ-ofZ (c .before .fits .a)) at (c .size-of .ensures)
+-- the place behind the first event
+abbrev behind-a : tie.After-to-u8 → tie.After-struct-told
+behind-a c = c .before .before
 
-b-is : (c : tie.After-size-of2) → c .size-of2 .result ≡ natAbs (c .before .before .args .b)
-b-is c = rw (toZ-ofZ (c .before .before .fits .b)) at (c .size-of2 .ensures)
+a-is : (c : tie.After-from-i32) → c .from-i32 .result ≡ natAbs (c .before .before .args .span .a)
+a-is c = rw (back w32 (c .before .before .args .span .a) (c .before .struct-told .given .0 .1)) at (c .from-i32 .ensures)
 
-size-of-requires : tie.Need-size-of-requires
-size-of-requires c κs = rw (toZ-ofZ (c .fits .a)) (event-sign (c .args .n) (c .args .a) (in-range (c .args .n) (c .args .a) (c .args .b) (c .args .lo) (c .args .hi) (c .pre .0) .first))
+b-is : (c : tie.After-from-i322) → c .from-i322 .result ≡ natAbs (behind-a (c .before .before) .before .args .span .b)
+b-is c =
+    let s = behind-a (c .before .before) .before in
+    rw (back w32 (s .args .span .b) (c .before .struct-told2 .given .1 .0 .1)) at (c .from-i322 .ensures)
 
-cast-t9 : tie.Need-cast-t9
-cast-t9 c = record { fits = omega (arith, a-is c, event-below (c .before .args .n) (c .before .args .a) (in-range (c .before .args .n) (c .before .args .a) (c .before .args .b) (c .before .args .lo) (c .before .args .hi) (c .before .pre .0) .first), c .before .pre .1) }
+from-i32-requires : tie.Need-from-i32-requires
+from-i32-requires c κs = search needs
 
-size-of-requires-2 : tie.Need-size-of-requires-2
-size-of-requires-2 c κs = rw (toZ-ofZ (c .before .fits .b)) (event-sign (c .before .args .n) (c .before .args .b) (in-range (c .before .args .n) (c .before .args .a) (c .before .args .b) (c .before .args .lo) (c .before .args .hi) (c .before .pre .0) .second))
+to-u8-requires : tie.Need-to-u8-requires
+to-u8-requires c κs = omega (arith, a-is c, c .before .before .pre .0 .a-below)
 
-cast-t11 : tie.Need-cast-t11
-cast-t11 c = record { fits = omega (arith, b-is c, event-below (c .before .before .args .n) (c .before .before .args .b) (in-range (c .before .before .args .n) (c .before .before .args .a) (c .before .before .args .b) (c .before .before .args .lo) (c .before .before .args .hi) (c .before .before .pre .0) .second), c .before .before .pre .1) }
+from-i32-requires-2 : tie.Need-from-i32-requires-2
+from-i32-requires-2 c κs = search needs
 
-cast-t12 : tie.Need-cast-t12
-cast-t12 c = search needs
+to-u8-requires-2 : tie.Need-to-u8-requires-2
+to-u8-requires-2 c κs = omega (arith, b-is c, behind-a (c .before .before) .before .pre .0 .b-below)
 
-cast-t13 : tie.Need-cast-t13
-cast-t13 c = search needs
+to-u16-requires : tie.Need-to-u16-requires
+to-u16-requires c κs = search needs
+
+to-u16-requires-2 : tie.Need-to-u16-requires-2
+to-u16-requires-2 c κs = search needs
 
 returns : tie.Need-returns
-returns c = rw (a-is (c .before), b-is c, toZ-ofZ (c .before .before .fits .lo), toZ-ofZ (c .before .before .fits .hi))
+returns c =
+    let first = c .before .before in
+    let b = first .before in
+    let a = b .before .before .before in
+    let span = behind-a a .before .args .span in
+    let lo = back w32 (span .lo) (c .struct-told3 .given .1 .1 .0 .1) in
+    let hi = back w32 (span .hi) (c .struct-told3 .given .1 .1 .1 .0 .1) in
+    rw (a .to-u8 .ensures ∙ a-is (a .before), b .to-u82 .ensures ∙ b-is (b .before), first .to-u16 .ensures, c .before .to-u162 .ensures, lo, hi)
 
 pub row-of-spec : {M : Type 1} → statement M
 row-of-spec =
     tie.close
-    (tie.spec size-of-requires cast-t9 size-of-requires-2 cast-t11 cast-t12 cast-t13 returns)
+    (tie.spec
+    from-i32-requires
+    to-u8-requires
+    from-i32-requires-2
+    to-u8-requires-2
+    to-u16-requires
+    to-u16-requires-2
+    returns)

@@ -1,4 +1,4 @@
--- `plan::up_again` meets its contract: by the flag.
+-- `line::up_again` meets its contract: by the flag.
 use borrow.Author.Needs.{needs}
 use Rattle.line.proofs.up_again.Statement.{statement}
 use Rattle.line.proofs.up_again.Tie as tie
