@@ -13,12 +13,10 @@ use Rattle.meaning.specs.Peak.{peaked}
 use Rattle.meaning.specs.Numbers.{OUT-OF-RANGE, SAME-EVENT, NOT-PEAKED}
 use Rattle.meaning.specs.Reading.{between, isEvent, isEnd, inRange, sameEvent}
 use Rattle.meaning.proofs.Tests.{both, event-below, in-range}
-use Rattle.line.specs.declared.SoFar.{SoFar}
-use Rattle.line.specs.declared.Span.{Span}
-use Rattle.line.specs.declared.Effect.{Effect}
-use Rattle.line.specs.declared.Effect.the-variants.{Fault}
-use Rattle.line.specs.Faults.{NO-FAULT, unlessMet, firstFault, headFault, areLevels, hasRoom, recordFault, gives, Fitting}
-use Rattle.line.proofs.Tests.{all-three, event-sign}
+use Rattle.faults.specs.declared.SoFar.{SoFar}
+use Rattle.faults.specs.declared.Span.{Span}
+use Rattle.faults.specs.Faults.{NO-FAULT, unlessMet, firstFault, headFault, areLevels, hasRoom, recordFault, Fitting}
+use Rattle.faults.proofs.Tests.{all-three, event-sign}
 
 pub only : (k : ℕ) → firstFault (k ∷ []) ≡ k
 only zero = refl
@@ -27,10 +25,6 @@ only (suc k) = refl
 pub stops : (k : ℕ) (ks : List ℕ) → (k ≡ NO-FAULT → ⊥) → k ≡ firstFault (k ∷ ks)
 stops zero ks n = absurd (n refl)
 stops (suc k) ks n = refl
-
-pub given-fault : (k : ℕ) (e : Effect) → (k ≡ NO-FAULT → ⊥) → Fault k ≡ gives k e
-given-fault zero e n = absurd (n refl)
-given-fault (suc k) e n = refl
 
 -- ---- no fault
 

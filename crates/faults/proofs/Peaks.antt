@@ -8,7 +8,7 @@ use borrow.Author.Tests.{ltb-true, ltb-false, le-leb, lt-leb}
 use lib.Dec.{ltb}
 use lib.ListN.{length, getD}
 use lib.Seq.{slice, slice-empty}
-use Rattle.text.proofs.Slices.{slice-step}
+use Rattle.meaning.proofs.Slices.{slice-step}
 use Rattle.meaning.specs.Peak.{peaked, peakedFrom}
 
 up : (f : Bool) (x z : ℕ) (zs : List ℕ) → f && ltb x z ≡ true → peakedFrom f x (z ∷ zs) ≡ false

@@ -1,24 +1,17 @@
--- The faults of the first line and of a record, by the tests of section 3 in their order 2, 3, 4, 5, 6; and what a line gives by them.
-use mathlib.Core.Path.{_≡_}
-use mathlib.Core.Bool.{Bool, true, false, cond, _&&_, not}
-use mathlib.Core.List.{List, [], _∷_, map}
-use Prim.Native.Nat.{ℕ, zero, suc, _+_, _-_, _≤_, _<_}
-use lib.Dec.{T, eqb, leb, ltb}
-use lib.ListN.{length, drop}
-use lib.Seq.{slice, sets}
-use lib.IntN.{ℤ, pos, natAbs, _+ℤ_}
+-- The faults of the first line and of a record, by the tests of section 3 in their order.
+use mathlib.Core.Bool.{Bool, true, false, _&&_, not}
+use mathlib.Core.List.{List, [], _∷_}
+use Prim.Native.Nat.{ℕ, zero, suc, _+_, _<_}
+use lib.Dec.{T, leb, ltb}
+use lib.ListN.{length}
+use lib.IntN.{ℤ, pos, natAbs}
 use lib.Signed.{leZ, nonNeg}
 use Rattle.meaning.specs.Plan.{MOST-EVENTS, MOST-HORIZON, MOST-RECORDS, MOST-LEVELS, MOST-LEVELS-TOGETHER, TOP-LEVEL}
 use Rattle.meaning.specs.Peak.{peaked}
-use Rattle.meaning.specs.Numbers.{WRONG-FORM, TOO-MANY, OUT-OF-RANGE, SAME-EVENT, NOT-PEAKED}
-use Rattle.meaning.specs.Reading.{item, between, isEnd, isLevel, inRange, sameEvent}
-use Rattle.plan.specs.declared.Record.{Record}
-use Rattle.line.specs.declared.Line.{Line}
-use Rattle.line.specs.declared.SoFar.{SoFar}
-use Rattle.line.specs.declared.Span.{Span}
-use Rattle.line.specs.declared.Effect.{Effect}
-use Rattle.line.specs.declared.Effect.the-variants.{Fault, Head, Entry}
-use Rattle.line.specs.Lines.{restOf}
+use Rattle.meaning.specs.Numbers.{TOO-MANY, OUT-OF-RANGE, SAME-EVENT, NOT-PEAKED}
+use Rattle.meaning.specs.Reading.{between, inRange, sameEvent}
+use Rattle.faults.specs.declared.SoFar.{SoFar}
+use Rattle.faults.specs.declared.Span.{Span}
 
 -- ---- tests in a row
 
@@ -35,33 +28,10 @@ firstFault [] = NO-FAULT
 firstFault (zero ∷ ks) = firstFault ks
 firstFault (suc k ∷ ks) = suc k
 
--- ---- levels as they are stored
-
--- a number that is no level is stored as one above the top
-abbrev pub levelOf : ℤ → ℕ
-levelOf v = cond (isLevel v) (natAbs v) (TOP-LEVEL + 1)
-
+-- levels as they are stored
 abbrev pub areLevels : List ℕ → Bool
 areLevels [] = true
 areLevels (l ∷ ls) = leb l TOP-LEVEL && areLevels ls
-
--- ---- the numbers of a record
-
--- a, b, lo, hi
-abbrev pub spanOf : List ℤ → Span
-spanOf vs = record { a = item vs 0; b = item vs 1; lo = item vs 2; hi = item vs 3 }
-
--- the distance of the last of m levels, where lo is in range
-abbrev pub lastFrom : ℤ → ℕ → ℤ
-lastFrom lo m = cond (isEnd lo) (lo +ℤ pos (m - 1)) lo
-
--- a, b, lo and m levels
-abbrev pub wishSpan : List ℤ → ℕ → Span
-wishSpan vs m = record { a = item vs 0; b = item vs 1; lo = item vs 2; hi = lastFrom (item vs 2) m }
-
--- its `count` levels stand from place `first` on
-abbrev pub rowFrom : Span → ℕ → ℕ → Record
-rowFrom r first count = record { a = natAbs (r .a); b = natAbs (r .b); first = first; count = count; lo = r .lo; hi = r .hi }
 
 -- its events are among those that any plan may have
 pub record Fitting (r : Span) : Type 0 where
@@ -98,58 +68,3 @@ recordFault n r ls =
 -- the same as one record more of the plan read so far
 abbrev pub entryFault : SoFar → Span → List ℕ → ℕ
 entryFault s r ls = firstFault (unlessMet (hasRoom s (length ls)) TOO-MANY ∷ recordFault (s .events) r ls ∷ [])
-
--- ---- the form of a line: `events` is the first, `rule` and `wish` are later ones, and each has its count of numbers
-
-abbrev pub isHead : Line → Bool
-isHead l = eqb (l .number) 1 && eqb (l .count) 2
-
-abbrev pub isRule : Line → Bool
-isRule l = not (eqb (l .number) 1) && eqb (l .count) 4
-
-abbrev pub isWish : Line → Bool
-isWish l = not (eqb (l .number) 1) && leb 4 (l .count)
-
--- ---- what a line gives
-
--- the fault where there is one
-abbrev pub gives : ℕ → Effect → Effect
-gives zero e = e
-gives (suc k) e = Fault (suc k)
-
-unfoldable pub eventsEffect : Line → Effect
-eventsEffect l =
-    let n = item (l .fields) 0 in
-    let h = item (l .fields) 1 in
-    gives (firstFault (unlessMet (isHead l) WRONG-FORM ∷ headFault n h ∷ [])) (Head (natAbs n) (natAbs h))
-
-unfoldable pub ruleEffect : Line → SoFar → Effect
-ruleEffect l s =
-    let r = spanOf (l .fields) in
-    gives (firstFault (unlessMet (isRule l) WRONG-FORM ∷ entryFault s r [] ∷ [])) (Entry (rowFrom r (s .levels) 0))
-
--- a wish whose levels ls are stored
-unfoldable pub wishEffect : Line → SoFar → List ℕ → Effect
-wishEffect l s ls =
-    let m = l .count - 3 in
-    let r = wishSpan (l .fields) m in
-    gives (recordFault (s .events) r ls) (Entry (rowFrom r (s .levels) m))
-
--- the line has the numbers of a wish, and there is room for it
-pub record Roomy (l : Line) (s : SoFar) : Type 0 where
-  pub numbers : 4 ≤ l .count
-  pub room : hasRoom s (l .count - 3) ≡ true
-
--- the numbers of a line but the first three, as levels
-abbrev pub levelsOf : List ℕ → Line → List ℕ
-levelsOf text l = map levelOf (drop 3 (restOf (slice (l .first) (l .«end») text)))
-
--- a wish for which there is room: its levels are stored
-abbrev pub Stored : List ℕ → Line → SoFar → List ℕ → List ℕ → Effect → Type 0
-Stored text l s before after e = (e ≡ wishEffect l s (levelsOf text l)) × (after ≡ sets before (s .levels) (levelsOf text l))
-
-abbrev pub WishTaken : List ℕ → Line → SoFar → List ℕ → List ℕ → Effect → Type 0
-WishTaken text l s before after e =
-    cond (isWish l)
-    (cond (hasRoom s (l .count - 3)) (Stored text l s before after e) ((e ≡ Fault TOO-MANY) × (after ≡ before)))
-    ((e ≡ Fault WRONG-FORM) × (after ≡ before))

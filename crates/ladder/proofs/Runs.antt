@@ -8,7 +8,7 @@ use lib.ListN.{length, getD}
 use lib.Seq.{slice, length-slice}
 use Rattle.meaning.specs.Run.{Run}
 use Rattle.meaning.proofs.Peaks.{past-end}
-use Rattle.plan.proofs.Use.{slice-at}
+use Rattle.meaning.proofs.Slices.{slice-at}
 use Rattle.plan.specs.declared.Record.{Record}
 use Rattle.ladder.specs.Climbing.{Under, RunFirst, RunPast, levelsAt}
 

@@ -16,14 +16,15 @@ use Rattle.meaning.specs.Reading.{item, eventsLine, ruleLine, wishLine, eventsF
 use Rattle.meaning.proofs.Tests.{both, count-to}
 use Rattle.plan.proofs.Padded.{sets-above}
 use Rattle.line.specs.declared.Line.{Line}
-use Rattle.line.specs.declared.SoFar.{SoFar}
-use Rattle.line.specs.declared.Span.{Span}
+use Rattle.faults.specs.declared.SoFar.{SoFar}
+use Rattle.faults.specs.declared.Span.{Span}
 use Rattle.line.specs.declared.Effect.{Effect}
 use Rattle.line.specs.declared.Effect.the-variants.{Fault, Head, Entry}
 use Rattle.line.specs.Lines.{Says, Counts, Numbered, Whole, Room, restOf}
-use Rattle.line.specs.Faults.{NO-FAULT, unlessMet, firstFault, levelOf, spanOf, wishSpan, rowFrom, headFault, hasRoom, recordFault, entryFault}
-use Rattle.line.specs.Faults.{isHead, isRule, isWish, eventsEffect, ruleEffect, wishEffect, levelsOf, Stored, WishTaken}
-use Rattle.line.proofs.Firsts.{met, only, head-ranges, ranged, low-end, levelled, limits}
+use Rattle.faults.specs.Faults.{NO-FAULT, unlessMet, firstFault, headFault, hasRoom, recordFault, entryFault}
+use Rattle.line.specs.Effects.{levelOf, spanOf, wishSpan, rowFrom}
+use Rattle.line.specs.Effects.{isHead, isRule, isWish, eventsEffect, ruleEffect, wishEffect, levelsOf, Stored, WishTaken}
+use Rattle.faults.proofs.Firsts.{met, only, head-ranges, ranged, low-end, levelled, limits}
 use Rattle.line.proofs.Wishes.{levels-as, levels-same, wish-row}
 use Rattle.line.proofs.Judges as J
 

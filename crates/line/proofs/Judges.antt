@@ -15,12 +15,14 @@ use Rattle.meaning.specs.Peak.{peaked}
 use Rattle.meaning.specs.Reading.{item, Form, eventsLine, ruleLine, wishLine, wrong, Step, taken, fault, unless, lineStep, firstLine, laterLine}
 use Rattle.meaning.specs.Reading.{withRecord, between, inRange, sameEvent, allLevels, lastOf, levelsTogether}
 use Rattle.meaning.specs.Numbers.{WRONG-FORM, TOO-MANY, OUT-OF-RANGE, SAME-EVENT, NOT-PEAKED}
-use Rattle.line.specs.declared.SoFar.{SoFar}
-use Rattle.line.specs.declared.Span.{Span}
+use Rattle.faults.specs.declared.SoFar.{SoFar}
+use Rattle.faults.specs.declared.Span.{Span}
 use Rattle.line.specs.declared.Effect.{Effect}
+use Rattle.line.specs.declared.Effect.the-variants.{Fault}
 use Rattle.line.specs.Lines.{Says, Counts}
-use Rattle.line.specs.Faults.{NO-FAULT, unlessMet, firstFault, levelOf, wishSpan, headFault, hasRoom, recordFault, entryFault, gives}
-use Rattle.line.proofs.Firsts.{only, flat}
+use Rattle.faults.specs.Faults.{NO-FAULT, unlessMet, firstFault, headFault, hasRoom, recordFault, entryFault}
+use Rattle.line.specs.Effects.{levelOf, wishSpan, gives}
+use Rattle.faults.proofs.Firsts.{only, flat}
 use Rattle.line.proofs.Wishes.{range-last, order-last, levels-as, levels-same}
 
 pub step-wrong : (line : ℕ) (p : M.Plan) → lineStep line p wrong ≡ fault WRONG-FORM
@@ -37,6 +39,10 @@ pub says-of : (line : ℕ) (f : Form) (n count used : ℕ) (before after : List 
 says-of line f n count used before after r x e s = rw (← e) s
 
 -- ---- a fault as a step
+
+pub given-fault : (k : ℕ) (e : Effect) → (k ≡ NO-FAULT → ⊥) → Fault k ≡ gives k e
+given-fault zero e n = absurd (n refl)
+given-fault (suc k) e n = refl
 
 -- the plan q, unless there is a fault
 abbrev pub stepOf : ℕ → M.Plan → Step

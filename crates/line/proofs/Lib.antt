@@ -1,7 +1,4 @@
 -- What the proofs about a line share.
-mod Tests
-mod Peaks
-mod Firsts
 mod Wishes
 mod Effects
 -- what other crates may cite

@@ -11,7 +11,7 @@ use Rattle.meaning.specs.Plan.{MOST-LEVELS-TOGETHER}
 use Rattle.meaning.specs.Reading.{Form, Step, taken, fault, withRecord, empty}
 use Rattle.plan.specs.Held.{rowOf, levelsIn}
 use Rattle.line.specs.declared.Line.{Line}
-use Rattle.line.specs.declared.SoFar.{SoFar}
+use Rattle.faults.specs.declared.SoFar.{SoFar}
 use Rattle.line.specs.declared.Field.{Field}
 use Rattle.line.specs.declared.Field.the-variants.{Number, Wrong}
 use Rattle.line.specs.declared.Effect.{Effect}

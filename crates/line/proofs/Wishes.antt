@@ -16,7 +16,8 @@ use Rattle.meaning.specs.Plan.{TOP-LEVEL}
 use Rattle.meaning.specs.Reading.{item, isEnd, isLevel, allLevels, inRange}
 use Rattle.meaning.proofs.Tests.{both, count-to}
 use Rattle.plan.specs.Held.{rowOf}
-use Rattle.line.specs.Faults.{levelOf, areLevels, lastFrom, wishSpan, rowFrom}
+use Rattle.faults.specs.Faults.{areLevels}
+use Rattle.line.specs.Effects.{levelOf, lastFrom, wishSpan, rowFrom}
 
 -- what was stored from place i on
 pub sets-slice : (l vs : List ℕ) (i : ℕ) → i + length vs ≤ length l → slice i (i + length vs) (sets l i vs) ≡ vs

@@ -17,7 +17,7 @@ use Rattle.text.specs.declared.Word.the-variants.{Events, Rule, Wish, Other}
 use Rattle.plan.specs.Held.{levelsIn, rowOf}
 use Rattle.plan.specs.declared.Record.{Record}
 use Rattle.line.specs.declared.Line.{Line}
-use Rattle.line.specs.declared.SoFar.{SoFar}
+use Rattle.faults.specs.declared.SoFar.{SoFar}
 use Rattle.line.specs.declared.Field.{Field}
 use Rattle.line.specs.declared.Field.the-variants.{Number, Wrong}
 use Rattle.line.specs.declared.Effect.{Effect}

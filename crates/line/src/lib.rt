@@ -12,18 +12,15 @@ ghost use Rattle.meaning.specs.Peak.{peaked};
 ghost use Rattle.meaning.specs.Reading.{between, isEvent, isEnd, inRange};
 ghost use Rattle.line.specs.Lines.{restOf, Fielded, AfterThree, begun, withNumber, FieldRead, Whole, Room, Gives};
 ghost use Rattle.line.specs.declared.Effect.the-variants.{Head};
-ghost use Rattle.line.specs.Faults.{NO-FAULT, levelOf, areLevels, lastFrom, spanOf, wishSpan, rowFrom, Fitting};
-ghost use Rattle.line.specs.Faults.{hasRoom, headFault, recordFault, isHead, isRule, isWish, Roomy};
-ghost use Rattle.line.specs.Faults.{eventsEffect, ruleEffect, wishEffect, Stored, WishTaken};
+ghost use Rattle.faults.specs.Faults.{NO-FAULT, areLevels, Fitting};
+ghost use Rattle.line.specs.Effects.{levelOf, lastFrom, spanOf, wishSpan, rowFrom};
+ghost use Rattle.faults.specs.Faults.{hasRoom, headFault, recordFault};
+ghost use Rattle.line.specs.Effects.{isHead, isRule, isWish, Roomy};
+ghost use Rattle.line.specs.Effects.{eventsEffect, ruleEffect, wishEffect, Stored, WishTaken};
+use faults::NO_FAULT;
+use faults::SoFar;
+use faults::Span;
 use plan::Record;
-use scope::MOST_END;
-use scope::MOST_HORIZON;
-use scope::MOST_LEVELS;
-use scope::MOST_RECORDS;
-use scope::MOST_WISH_LEVELS;
-use scope::NOT_PEAKED;
-use scope::OUT_OF_RANGE;
-use scope::SAME_EVENT;
 use scope::TOO_MANY;
 use scope::WRONG_FORM;
 use text::Number;
@@ -31,12 +28,7 @@ use text::Word;
 
 const TAB: u8 = 9;
 
-// What a test gives that finds no fault.
-const NO_FAULT: u8 = 0;
-
-// A field is a signed number, so these two limits are met as such.
-const MOST_EVENTS: i32 = scope::MOST_EVENTS as i32;
-
+// A field is a signed number, so this limit is met as such.
 const TOP_LEVEL: i32 = scope::TOP_LEVEL as i32;
 
 // How a number is stored that is no level.
@@ -51,13 +43,6 @@ pub struct Line {
     pub end: usize,
     pub count: usize,
     pub fields: [i32; 4],
-}
-
-// What the tests of a line need of the plan read so far: its events, its records, and the levels that these have together.
-pub struct SoFar {
-    pub events: usize,
-    pub records: usize,
-    pub levels: usize,
 }
 
 // The field behind a tab: its number and the place where it ends, or that it is no number.
@@ -119,37 +104,13 @@ pub fn with_number(line: Line, v: i32) -> Line
     more
 }
 
-// ---- the tests of a number
-
-// v lies between lo and hi.
-fn is_between(lo: i32, hi: i32, v: i32) -> bool
-    ensures { λ r. ⌜ r ≡ between lo hi v ⌝ }
-{
-    if lo <= v { v <= hi } else { false }
-}
-
-// v is one of the events 0 to n - 1.
-fn is_event(n: usize, v: i32) -> bool
-    requires { ⌜ n ≤ MOST-EVENTS ⌝ }
-    ensures { λ r. ⌜ r ≡ isEvent n v ⌝ }
-{
-    if 0 <= v { v < widths::to_i32(n) } else { false }
-}
-
-// v may be an end of a span.
-fn is_end(v: i32) -> bool
-    ensures { λ r. ⌜ r ≡ isEnd v ⌝ }
-{
-    is_between(-MOST_END, MOST_END, v)
-}
-
 // ---- the levels of a wish
 
 // A number as a level; one that is none is stored as one above the top.
 fn level_of(v: i32) -> u8
     ensures { λ r. ⌜ r ≡ levelOf v ⌝ }
 {
-    if is_between(0, TOP_LEVEL, v) {
+    if faults::is_between(0, TOP_LEVEL, v) {
         widths::to_u8(widths::from_i32(v))
     } else {
         NO_LEVEL
@@ -188,64 +149,7 @@ fn read_levels(text: &[u8], from: usize, end: usize, levels: &mut [u8], used: us
     }
 }
 
-// The levels from at up to end are allowed ones.
-fn are_levels(levels: &[u8], at: usize, end: usize) -> bool
-    requires { ⌜ (at ≤ end) × (end ≤ length (now levels)) ⌝ }
-    ensures { λ r. ⌜ r ≡ areLevels (slice at end (now (levels .entry))) ⌝ }
-{
-    let mut k = at;
-    while k < end {
-        if scope::TOP_LEVEL < levels[k] {
-            return false;
-        }
-        k += 1;
-    }
-    true
-}
-
-// A level z after x that is up again after a fall.
-fn up_again(fallen: bool, x: u8, z: u8) -> bool
-    ensures { λ r. ⌜ r ≡ (fallen && ltb x z) ⌝ }
-{
-    if fallen { x < z } else { false }
-}
-
-// The levels have gone down somewhere up to z.
-fn has_fallen(fallen: bool, x: u8, z: u8) -> bool
-    ensures { λ r. ⌜ r ≡ (fallen || ltb z x) ⌝ }
-{
-    if fallen { true } else { z < x }
-}
-
-// The levels from at up to end are single-peaked.
-fn is_peaked(levels: &[u8], at: usize, end: usize) -> bool
-    requires { ⌜ (at ≤ end) × (end ≤ length (now levels)) ⌝ }
-    ensures { λ r. ⌜ r ≡ peaked (slice at end (now (levels .entry))) ⌝ }
-{
-    let mut fallen = false;
-    let mut x: u8 = 0;
-    let mut i = at;
-    while i < end {
-        let z = levels[i];
-        if up_again(fallen, x, z) {
-            return false;
-        }
-        fallen = has_fallen(fallen, x, z);
-        x = z;
-        i += 1;
-    }
-    true
-}
-
 // ---- the numbers of a record
-
-// The two events and the two ends of a record.
-struct Span {
-    a: i32,
-    b: i32,
-    lo: i32,
-    hi: i32,
-}
 
 // The first four numbers of a line, as the numbers of a rule.
 fn span_of(line: Line) -> Span
@@ -265,7 +169,7 @@ fn last_of(lo: i32, m: usize) -> i32
     requires { ⌜ (1 ≤ m) × (m ≤ MOST-LEVELS) ⌝ }
     ensures { λ r. ⌜ r ≡ lastFrom lo m ⌝ }
 {
-    if is_end(lo) {
+    if faults::is_end(lo) {
         ticks::plus(lo, widths::to_i32(m - 1))
     } else {
         lo
@@ -280,90 +184,6 @@ fn wish_span(line: Line, m: usize) -> Span
     let mut span = span_of(line);
     span.hi = last_of(span.lo, m);
     span
-}
-
-// Its events are those of the plan, and its ends are within their limits.
-fn in_range(n: usize, span: Span) -> bool
-    requires { ⌜ n ≤ MOST-EVENTS ⌝ }
-    ensures { λ r. ⌜ r ≡ inRange n (span .a) (span .b) (span .lo) (span .hi) ⌝ }
-{
-    if !is_event(n, span.a) {
-        return false;
-    }
-    if !is_event(n, span.b) {
-        return false;
-    }
-    if !is_end(span.lo) {
-        return false;
-    }
-    is_end(span.hi)
-}
-
-// ---- the faults
-
-// One record more, with m levels, is within the limits of their numbers.
-fn has_room(plan: SoFar, m: usize) -> bool
-    requires { ⌜ plan .levels ≤ MOST-LEVELS-TOGETHER ⌝ }
-    ensures { λ r. ⌜ r ≡ hasRoom plan m ⌝ }
-{
-    if MOST_RECORDS <= plan.records {
-        return false;
-    }
-    if MOST_WISH_LEVELS < m {
-        return false;
-    }
-    plan.levels + m <= MOST_LEVELS
-}
-
-// The fault of n events and the horizon h.
-fn head_fault(n: i32, h: i32) -> u8
-    ensures { λ r. ⌜ r ≡ headFault n h ⌝ }
-{
-    if !is_between(1, MOST_EVENTS, n) {
-        return OUT_OF_RANGE;
-    }
-    if is_between(0, MOST_HORIZON, h) {
-        NO_FAULT
-    } else {
-        OUT_OF_RANGE
-    }
-}
-
-// The first fault of a rule.
-fn rule_fault(n: usize, span: Span) -> u8
-    requires { ⌜ n ≤ MOST-EVENTS ⌝ }
-    ensures { λ r. ⌜ r ≡ recordFault n span [] ⌝ }
-{
-    if !in_range(n, span) {
-        return OUT_OF_RANGE;
-    }
-    if !ticks::at_most(span.lo, span.hi) {
-        return OUT_OF_RANGE;
-    }
-    if ticks::equal(span.a, span.b) {
-        SAME_EVENT
-    } else {
-        NO_FAULT
-    }
-}
-
-// The first fault of a wish, whose levels stand from at up to end.
-fn wish_fault(n: usize, span: Span, levels: &[u8], at: usize, end: usize) -> u8
-    requires { ⌜ (n ≤ MOST-EVENTS) × (at ≤ end) × (end ≤ length (now levels)) ⌝ }
-    ensures { λ r. ⌜ r ≡ recordFault n span (slice at end (now (levels .entry))) ⌝ }
-{
-    if !are_levels(levels, at, end) {
-        return OUT_OF_RANGE;
-    }
-    let fault = rule_fault(n, span);
-    if fault != NO_FAULT {
-        return fault;
-    }
-    if is_peaked(levels, at, end) {
-        NO_FAULT
-    } else {
-        NOT_PEAKED
-    }
 }
 
 // ---- what a line gives
@@ -431,7 +251,7 @@ fn take_events(line: Line) -> Effect
     }
     let n = line.fields[0];
     let h = line.fields[1];
-    let fault = head_fault(n, h);
+    let fault = faults::head_fault(n, h);
     if fault != NO_FAULT {
         return Effect::Fault(fault);
     }
@@ -446,11 +266,11 @@ fn take_rule(line: Line, plan: SoFar) -> Effect
     if !is_rule(line) {
         return Effect::Fault(WRONG_FORM);
     }
-    if !has_room(plan, 0) {
+    if !faults::has_room(plan, 0) {
         return Effect::Fault(TOO_MANY);
     }
     let span = span_of(line);
-    let fault = rule_fault(plan.events, span);
+    let fault = faults::rule_fault(plan.events, span);
     if fault != NO_FAULT {
         return Effect::Fault(fault);
     }
@@ -465,7 +285,7 @@ fn wish_effect(line: Line, plan: SoFar, levels: &[u8]) -> Effect
     let m = line.count - 3;
     let at = plan.levels;
     let span = wish_span(line, m);
-    let fault = wish_fault(plan.events, span, levels, at, at + m);
+    let fault = faults::wish_fault(plan.events, span, levels, at, at + m);
     if fault != NO_FAULT {
         return Effect::Fault(fault);
     }
@@ -490,7 +310,7 @@ fn take_wish(text: &[u8], line: Line, plan: SoFar, levels: &mut [u8]) -> Effect
     if !is_wish(line) {
         return Effect::Fault(WRONG_FORM);
     }
-    if !has_room(plan, line.count - 3) {
+    if !faults::has_room(plan, line.count - 3) {
         return Effect::Fault(TOO_MANY);
     }
     store_wish(text, line, plan, levels)

@@ -8,10 +8,11 @@ use native.Mathlib.Omega.{arith}
 use borrow.Author.Tests.{ne-eqb}
 use lib.Dec.{eqb}
 use lib.ListN.{length, getD, take, List·getD-append}
-use lib.Seq.{slice, length-slice, getD-append-add, getD-drop, getD-take, ext-getD}
+use lib.Seq.{slice, length-slice, getD-append-add, ext-getD}
 use Rattle.meaning.specs.Plan as M
 use Rattle.meaning.specs.Plan.{MOST-LEVELS-TOGETHER, nothing, recordAt}
 use Rattle.meaning.specs.Reading.{levelsTogether}
+use Rattle.meaning.proofs.Slices.{slice-at}
 use Rattle.meaning.specs.Faultless.{WithoutFault, Levelled}
 use Rattle.plan.specs.declared.Record.{Record}
 use Rattle.plan.specs.declared.Plan.{Plan}
@@ -32,9 +33,6 @@ pub held-row : {p : M.Plan} {h : Plan} → Holds p h → (k : ℕ) → rowAt h k
 held-row {p} o k = rw (o .rows k) (row-of 0 (p .records) k)
 
 -- ---- the levels of record k
-
-pub slice-at : (s : List ℕ) (i e j : ℕ) → i + j < e → getD (slice i e s) j 0 ≡ getD s (i + j) 0
-slice-at s i e j h = getD-drop i _ j 0 ∙ getD-take e s (i + j) 0 h
 
 -- where they begin
 abbrev placeOf : List M.Record → ℕ → ℕ

@@ -24,7 +24,7 @@ use Rattle.plan.specs.Held.{levelsIn, Holds, LevelsHeld}
 use Rattle.plan.proofs.Growth.{withRow, holds-more, held-more}
 use Rattle.plan.proofs.Padded.{all-same, one-more}
 use Rattle.line.specs.declared.Line.{Line}
-use Rattle.line.specs.declared.SoFar.{SoFar}
+use Rattle.faults.specs.declared.SoFar.{SoFar}
 use Rattle.line.specs.declared.Field.the-variants.{Number, Wrong}
 use Rattle.line.specs.declared.Effect.the-variants.{Fault, Head, Entry}
 use Rattle.line.specs.Lines.{begun, withNumber, fieldEnd, FieldRead, Numbered, Whole, Room, Counts, Gives, formIn}

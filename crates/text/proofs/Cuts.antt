@@ -12,7 +12,7 @@ use Rattle.bytes.specs.Bytes.{indexOf, indexAfter}
 use Rattle.bytes.specs.Bytes as B
 use Rattle.meaning.specs.Reading.{split}
 use Rattle.text.specs.Bytes.{until, after}
-use Rattle.text.proofs.Slices.{slice-step}
+use Rattle.meaning.proofs.Slices.{slice-step}
 
 -- the library's words for a search in a part of a list, and ours
 index-is : (b : ℕ) (xs : List ℕ) → indexOf b xs ≡ until b xs

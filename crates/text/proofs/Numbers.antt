@@ -16,7 +16,7 @@ use mir.Val.{SFits}
 use Rattle.ticks.proofs.Ticks.{ticks}
 use Rattle.meaning.specs.Reading.{isDigit, runFrom, digitsOf, leadingZero, numberOf, minus, plus}
 use Rattle.text.specs.Number.{numberStop, digitsStop, saysZero}
-use Rattle.text.proofs.Slices.{slice-step}
+use Rattle.meaning.proofs.Slices.{slice-step}
 
 -- ---- the value and the stop, by the first byte and what the digits say
 

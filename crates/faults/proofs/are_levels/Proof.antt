@@ -1,15 +1,15 @@
--- `line::are_levels` meets its contract: the levels from here on give what the whole gives.
+-- `faults::are_levels` meets its contract: the levels from here on give what the whole gives.
 use mathlib.Core.Path.{_≡_, refl}
 use Prim.Native.Nat.{_-_, _≤_}
 use native.Mathlib.Omega.{arith}
 use borrow.Author.Tests.{le-leb, lt-leb}
 use lib.ListN.{getD}
 use lib.Seq.{slice, slice-empty}
-use Rattle.text.proofs.Slices.{slice-step}
+use Rattle.meaning.proofs.Slices.{slice-step}
 use Rattle.meaning.specs.Plan.{TOP-LEVEL}
-use Rattle.line.specs.Faults.{areLevels}
-use Rattle.line.proofs.are_levels.Statement.{statement}
-use Rattle.line.proofs.are_levels.Tie as tie
+use Rattle.faults.specs.Faults.{areLevels}
+use Rattle.faults.proofs.are_levels.Statement.{statement}
+use Rattle.faults.proofs.are_levels.Tie as tie
 
 abbrev Inv-loop : tie.InvT-loop
 Inv-loop levels at end k₀ k = (k ≤ end) × (areLevels (slice k end levels) ≡ areLevels (slice at end levels))

@@ -1,7 +1,7 @@
--- `line::has_fallen` meets its contract: by the flag.
+-- `faults::has_fallen` meets its contract: by the flag.
 use borrow.Author.Needs.{needs}
-use Rattle.line.proofs.has_fallen.Statement.{statement}
-use Rattle.line.proofs.has_fallen.Tie as tie
+use Rattle.faults.proofs.has_fallen.Statement.{statement}
+use Rattle.faults.proofs.has_fallen.Tie as tie
 
 returns : tie.Need-returns
 returns c = search needs

@@ -1,9 +1,9 @@
--- `line::has_room` meets its contract: the tests in turn.
+-- `faults::has_room` meets its contract: the tests in turn.
 use borrow.Author.Tests.{lt-ltb, le-ltb, le-leb, lt-leb}
 use borrow.Author.Needs.{needs}
 use Rattle.meaning.specs.Plan.{MOST-RECORDS, MOST-LEVELS}
-use Rattle.line.proofs.has_room.Statement.{statement}
-use Rattle.line.proofs.has_room.Tie as tie
+use Rattle.faults.proofs.has_room.Statement.{statement}
+use Rattle.faults.proofs.has_room.Tie as tie
 
 returns : tie.Need-returns
 returns c = rw (le-ltb (c .before .before .args .plan .records) MOST-RECORDS (c .if1 .taken))

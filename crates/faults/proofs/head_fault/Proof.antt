@@ -1,4 +1,4 @@
--- `line::head_fault` meets its contract: the tests in turn.
+-- `faults::head_fault` meets its contract: the tests in turn.
 use mathlib.Core.Path.{_≡_, sym, _∙_}
 use borrow.Author.Tests.{not-true, not-false}
 use lib.IntN.{pos}
@@ -6,9 +6,9 @@ use mir.Facts.{toZ-ofZ}
 use borrow.Author.Needs.{needs}
 use Rattle.meaning.specs.Plan.{MOST-EVENTS, MOST-HORIZON}
 use Rattle.meaning.specs.Reading.{between}
-use Rattle.line.specs.Faults.{headFault}
-use Rattle.line.proofs.head_fault.Statement.{statement}
-use Rattle.line.proofs.head_fault.Tie as tie
+use Rattle.faults.specs.Faults.{headFault}
+use Rattle.faults.proofs.head_fault.Statement.{statement}
+use Rattle.faults.proofs.head_fault.Tie as tie
 
 n-is : (c : tie.After-is-between) → between (pos 1) (pos MOST-EVENTS) (c .before .args .n) ≡ c .is-between .result
 n-is c = sym (rw (toZ-ofZ (c .before .fits .n)) at (c .is-between .ensures))

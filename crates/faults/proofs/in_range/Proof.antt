@@ -1,4 +1,4 @@
--- `line::in_range` meets its contract: the tests in turn.
+-- `faults::in_range` meets its contract: the tests in turn.
 use mathlib.Core.Path.{_≡_, sym, _∙_}
 use mathlib.Core.Bool.{true}
 use borrow.Author.Tests.{not-true, not-false}
@@ -6,8 +6,8 @@ use mir.Syntax.{w32}
 use borrow.Author.Needs.{needs}
 use Rattle.ticks.proofs.Ticks.{back}
 use Rattle.meaning.specs.Reading.{isEvent, isEnd}
-use Rattle.line.proofs.in_range.Statement.{statement}
-use Rattle.line.proofs.in_range.Tie as tie
+use Rattle.faults.proofs.in_range.Statement.{statement}
+use Rattle.faults.proofs.in_range.Tie as tie
 
 abbrev second : tie.Else1 → tie.Start
 second c = c .before .before .before

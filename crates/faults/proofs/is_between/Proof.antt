@@ -1,7 +1,7 @@
--- `line::is_between` meets its contract: each arm is what the first test leaves of the conjunction.
+-- `faults::is_between` meets its contract: each arm is what the first test leaves of the conjunction.
 use mir.Facts.{toZ-ofZ}
-use Rattle.line.proofs.is_between.Statement.{statement}
-use Rattle.line.proofs.is_between.Tie as tie
+use Rattle.faults.proofs.is_between.Statement.{statement}
+use Rattle.faults.proofs.is_between.Tie as tie
 
 returns : tie.Need-returns
 returns c =

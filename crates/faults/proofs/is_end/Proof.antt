@@ -1,8 +1,8 @@
--- `line::is_end` meets its contract: what the call answers.
+-- `faults::is_end` meets its contract: what the call answers.
 use mir.Facts.{toZ-ofZ}
 use borrow.Author.Needs.{needs}
-use Rattle.line.proofs.is_end.Statement.{statement}
-use Rattle.line.proofs.is_end.Tie as tie
+use Rattle.faults.proofs.is_end.Statement.{statement}
+use Rattle.faults.proofs.is_end.Tie as tie
 
 sub-is-between : tie.Need-sub-is-between
 sub-is-between c = search needs

@@ -1,10 +1,10 @@
--- `line::is_event` meets its contract: each arm is what the first test leaves of the conjunction.
+-- `faults::is_event` meets its contract: each arm is what the first test leaves of the conjunction.
 use mir.Facts.{toZ-ofZ}
 use mir.Syntax.{w32}
 use borrow.Author.Needs.{needs}
 use Rattle.ticks.proofs.Ticks.{back}
-use Rattle.line.proofs.is_event.Statement.{statement}
-use Rattle.line.proofs.is_event.Tie as tie
+use Rattle.faults.proofs.is_event.Statement.{statement}
+use Rattle.faults.proofs.is_event.Tie as tie
 
 to-i32-requires : tie.Need-to-i32-requires
 to-i32-requires c κs = search needs

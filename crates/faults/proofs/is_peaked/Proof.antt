@@ -1,13 +1,13 @@
--- `line::is_peaked` meets its contract: the one pass from here on gives what the whole gives.
+-- `faults::is_peaked` meets its contract: the one pass from here on gives what the whole gives.
 use mathlib.Core.Path.{_≡_, sym, _∙_}
 use Prim.Native.Nat.{_-_, _≤_}
 use native.Mathlib.Omega.{arith}
 use lib.Seq.{slice}
 use Rattle.meaning.specs.Peak.{peaked, peakedFrom}
-use Rattle.line.proofs.Peaks.{peak-start, peak-up, peak-on, peak-end}
+use Rattle.faults.proofs.Peaks.{peak-start, peak-up, peak-on, peak-end}
 use borrow.Author.Needs.{needs}
-use Rattle.line.proofs.is_peaked.Statement.{statement}
-use Rattle.line.proofs.is_peaked.Tie as tie
+use Rattle.faults.proofs.is_peaked.Statement.{statement}
+use Rattle.faults.proofs.is_peaked.Tie as tie
 
 abbrev Inv-loop : tie.InvT-loop
 Inv-loop levels at end fallen₀ x₀ i₀ fallen x i = (i ≤ end) × (peakedFrom fallen x (slice i end levels) ≡ peaked (slice at end levels))

@@ -1,4 +1,4 @@
--- `line::rule_fault` meets its contract: the tests in turn; a rule has no levels, which are allowed and single-peaked.
+-- `faults::rule_fault` meets its contract: the tests in turn; a rule has no levels, which are allowed and single-peaked.
 use mathlib.Core.Path.{_≡_, sym, _∙_}
 use mathlib.Core.Bool.{true}
 use borrow.Author.Tests.{not-true, not-false}
@@ -7,10 +7,10 @@ use mir.Syntax.{w32}
 use borrow.Author.Needs.{needs}
 use Rattle.ticks.proofs.Ticks.{back}
 use Rattle.meaning.specs.Reading.{inRange, sameEvent}
-use Rattle.line.specs.Faults.{recordFault}
-use Rattle.line.proofs.Firsts.{flat}
-use Rattle.line.proofs.rule_fault.Statement.{statement}
-use Rattle.line.proofs.rule_fault.Tie as tie
+use Rattle.faults.specs.Faults.{recordFault}
+use Rattle.faults.proofs.Firsts.{flat}
+use Rattle.faults.proofs.rule_fault.Statement.{statement}
+use Rattle.faults.proofs.rule_fault.Tie as tie
 
 abbrev first : tie.Else1 → tie.Start
 first c = c .before .before

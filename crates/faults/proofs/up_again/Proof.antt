@@ -1,7 +1,7 @@
--- `line::up_again` meets its contract: by the flag.
+-- `faults::up_again` meets its contract: by the flag.
 use borrow.Author.Needs.{needs}
-use Rattle.line.proofs.up_again.Statement.{statement}
-use Rattle.line.proofs.up_again.Tie as tie
+use Rattle.faults.proofs.up_again.Statement.{statement}
+use Rattle.faults.proofs.up_again.Tie as tie
 
 returns : tie.Need-returns
 returns c = rw (c .if1 .taken)

@@ -1,4 +1,4 @@
--- `line::wish_fault` meets its contract: the tests of a rule, those of the levels around them.
+-- `faults::wish_fault` meets its contract: the tests of a rule, those of the levels around them.
 use mathlib.Core.Path.{_≡_, sym, _∙_}
 use mathlib.Core.Bool.{true}
 use mathlib.Core.List.{List, [], _∷_}
@@ -8,10 +8,10 @@ use lib.Seq.{slice}
 use borrow.Author.Needs.{needs}
 use Rattle.meaning.specs.Peak.{peaked}
 use Rattle.meaning.specs.Numbers.{NOT-PEAKED}
-use Rattle.line.specs.Faults.{unlessMet, areLevels, recordFault}
-use Rattle.line.proofs.Firsts.{only, stops, by-levels}
-use Rattle.line.proofs.wish_fault.Statement.{statement}
-use Rattle.line.proofs.wish_fault.Tie as tie
+use Rattle.faults.specs.Faults.{unlessMet, areLevels, recordFault}
+use Rattle.faults.proofs.Firsts.{only, stops, by-levels}
+use Rattle.faults.proofs.wish_fault.Statement.{statement}
+use Rattle.faults.proofs.wish_fault.Tie as tie
 
 -- the levels of the wish
 abbrev part : tie.Start → List ℕ

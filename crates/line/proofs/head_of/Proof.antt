@@ -5,8 +5,8 @@ use lib.IntN.{natAbs}
 use mir.Facts.{toZ-ofZ}
 use Rattle.meaning.specs.Plan.{MOST-EVENTS, MOST-HORIZON}
 use Rattle.meaning.proofs.Tests.{count-to}
-use Rattle.line.proofs.Tests.{sign}
-use Rattle.line.proofs.Firsts.{head-ranges}
+use Rattle.faults.proofs.Tests.{sign}
+use Rattle.faults.proofs.Firsts.{head-ranges}
 use Rattle.line.proofs.head_of.Statement.{statement}
 use Rattle.line.proofs.head_of.Tie as tie
 

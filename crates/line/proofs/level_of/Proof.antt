@@ -7,7 +7,7 @@ use lib.IntN.{natAbs}
 use Rattle.meaning.specs.Plan.{TOP-LEVEL}
 use Rattle.meaning.specs.Reading.{isLevel}
 use Rattle.meaning.proofs.Tests.{count-to}
-use Rattle.line.proofs.Tests.{sign}
+use Rattle.faults.proofs.Tests.{sign}
 use Rattle.line.proofs.level_of.Statement.{statement}
 use Rattle.line.proofs.level_of.Tie as tie
 

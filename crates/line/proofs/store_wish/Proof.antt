@@ -8,8 +8,8 @@ use lib.IntN.{ℤ}
 use lib.Seq.{slice, sets}
 use borrow.Author.Needs.{needs}
 use Rattle.line.specs.Lines.{restOf}
-use Rattle.line.specs.Faults.{levelOf, levelsOf, wishEffect}
-use Rattle.line.proofs.Firsts.{Limits, limits}
+use Rattle.line.specs.Effects.{levelOf, levelsOf, wishEffect}
+use Rattle.faults.proofs.Firsts.{Limits, limits}
 use Rattle.line.proofs.Wishes.{stored-slice}
 use Rattle.line.proofs.store_wish.Statement.{statement}
 use Rattle.line.proofs.store_wish.Tie as tie

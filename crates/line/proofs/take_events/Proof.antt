@@ -7,8 +7,10 @@ use mir.Syntax.{w32}
 use mir.Val.{SFits}
 use borrow.Author.Needs.{needs}
 use Rattle.meaning.specs.Reading.{item}
-use Rattle.line.specs.Faults.{isHead, headFault, eventsEffect}
-use Rattle.line.proofs.Firsts.{only, given-fault}
+use Rattle.faults.specs.Faults.{headFault}
+use Rattle.line.specs.Effects.{isHead, eventsEffect}
+use Rattle.faults.proofs.Firsts.{only}
+use Rattle.line.proofs.Judges.{given-fault}
 use Rattle.line.proofs.take_events.Statement.{statement}
 use Rattle.line.proofs.take_events.Tie as tie
 

@@ -5,9 +5,11 @@ use mathlib.Core.List.{[]}
 use native.Mathlib.Omega.{arith}
 use borrow.Author.Tests.{not-true, not-false}
 use borrow.Author.Needs.{needs}
-use Rattle.line.specs.declared.Span.{Span}
-use Rattle.line.specs.Faults.{spanOf, isRule, hasRoom, recordFault, ruleEffect}
-use Rattle.line.proofs.Firsts.{only, given-fault, fitting}
+use Rattle.faults.specs.declared.Span.{Span}
+use Rattle.faults.specs.Faults.{hasRoom, recordFault}
+use Rattle.line.specs.Effects.{spanOf, isRule, ruleEffect}
+use Rattle.faults.proofs.Firsts.{only, fitting}
+use Rattle.line.proofs.Judges.{given-fault}
 use Rattle.line.proofs.take_rule.Statement.{statement}
 use Rattle.line.proofs.take_rule.Tie as tie
 

@@ -7,7 +7,8 @@ use borrow.Author.Tests.{not-true, not-false, leb-true}
 use lib.Dec.{eqb, leb}
 use borrow.Author.Needs.{needs}
 use Rattle.meaning.proofs.Tests.{both}
-use Rattle.line.specs.Faults.{isWish, hasRoom}
+use Rattle.faults.specs.Faults.{hasRoom}
+use Rattle.line.specs.Effects.{isWish}
 use Rattle.line.proofs.take_wish.Statement.{statement}
 use Rattle.line.proofs.take_wish.Tie as tie
 

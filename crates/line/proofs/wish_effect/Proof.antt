@@ -5,9 +5,11 @@ use Prim.Native.Nat.{ℕ, _+_, _-_}
 use native.Mathlib.Omega.{arith}
 use lib.Seq.{slice}
 use borrow.Author.Needs.{needs}
-use Rattle.line.specs.declared.Span.{Span}
-use Rattle.line.specs.Faults.{wishSpan, recordFault, wishEffect}
-use Rattle.line.proofs.Firsts.{given-fault, fitting, Limits, limits}
+use Rattle.faults.specs.declared.Span.{Span}
+use Rattle.faults.specs.Faults.{recordFault}
+use Rattle.line.specs.Effects.{wishSpan, wishEffect}
+use Rattle.faults.proofs.Firsts.{fitting, Limits, limits}
+use Rattle.line.proofs.Judges.{given-fault}
 use Rattle.line.proofs.wish_effect.Statement.{statement}
 use Rattle.line.proofs.wish_effect.Tie as tie
 
