@@ -55,12 +55,12 @@ module _ (list : List Entry) (d : List ℤ) (n m : ℕ) (nx : List ℕ) (broken 
 
   -- the notes with bound m at its start
   abbrev pub closed : List ℕ
-  closed = note nx (β .start) (β .end) (β .code)
+  closed = note nx β
 
-  start-low : {u v : ℕ} {w : ℤ} → Fit n u v w → u < WIDTH
+  start-low : {x : Bound} → Fit n x → x .start < WIDTH
   start-low f = omega (arith, broken .table .events, f .start)
 
-  end-low : {u v : ℕ} {w : ℤ} → Fit n u v w → v < WIDTH
+  end-low : {x : Bound} → Fit n x → x .end < WIDTH
   end-low f = omega (arith, broken .table .events, f .end)
 
   module _ {nx₀ : List ℕ} (s : ℕ) (marked : Reached list d m (β .start) (β .end) nx₀ s nx) where
@@ -73,14 +73,14 @@ module _ (list : List Entry) (d : List ℤ) (n m : ℕ) (nx : List ℕ) (broken 
     pub closed-notes : Notes closed
     closed-notes =
         let f = broken .given .fit m (omega arith) in
-        notes-note nx (β .start) (β .end) (β .code) (start-low f) (end-low f) (marked .notes)
+        notes-note nx β (start-low f) (end-low f) (marked .notes)
 
     pub closed-path : Path closed (β .start) (β .end) (way-back .steps)
     closed-path = record {
       leads = way-back .leads;
       noted = λ x i.
           let p = way-back .each x i in
-          noted-other nx (β .start) (β .end) (β .code) x (p .apart) (p .noted);
+          noted-other nx β x (p .apart) (p .noted);
       simple = way-back .simple;
     }
 
@@ -116,10 +116,10 @@ module _ (list : List Entry) (d : List ℤ) (n m : ℕ) (nx : List ℕ) (broken 
       visited x i = events .all (x .start) (⊎-elim (λ p. Memᴰ·cast (ap (λ (y : Bound). y .start) p) (last-entered (way-back .leads)))
           (λ j. starts-on-way (way-back .leads) (x .start) (Memᴰ·map (λ y. y .start) j)) (List·Memᴰ·cases-cons i))
 
-      bound-fit : (x : Bound) → List·Memᴰ x round → Fit n (x .start) (x .end) (x .weight)
+      bound-fit : (x : Bound) → List·Memᴰ x round → Fit n x
       bound-fit x i =
           let p = place x i in
-          subst (λ (y : Bound). Fit n (y .start) (y .end) (y .weight)) (p .is) (broken .given .fit (p .place) (p .low))
+          subst (Fit n) (p .is) (broken .given .fit (p .place) (p .low))
 
       loop : Loop (λ x. List·Memᴰ x (listed list (m + 1))) (β .start) round
       loop = record {

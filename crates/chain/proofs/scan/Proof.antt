@@ -51,7 +51,7 @@ use Rattle.eventset.proofs.EventSet as S
 use Rattle.eventset.proofs.EventSet.Laws as S′
 use Rattle.chain.specs.declared.Bound.{Bound}
 use Rattle.chain.specs.Clash.{boundAt}
-use Rattle.chain.specs.Marks.{LookAt, Scanning, Scanned}
+use Rattle.chain.specs.Marks.{Look, Scanning, Scanned}
 use Rattle.chain.proofs.Bound as T
 use Rattle.chain.proofs.Lent.{LentAgain, lends-again, comes-back}
 use Rattle.chain.proofs.Searched.{searched, taken, left}
@@ -222,8 +222,8 @@ module _ {M : Type 1} (𝓤 : URA M) (H : Heap 𝓤) (A : Atoms 𝓤) (W : Given
           -- [what `look_at` asks; the distances; the list; what is kept of the notes; _8; _9; _10; _11; _7; _1; …; _6; _0; …]
           calls-at ! fm (Looks 𝓤 H A mem run) known (to-look i r u nx ν δ) (and-then ! (load ! (place′ ! (stop !)) (look ! 9 refl)) (and-then ! (load ! (place′ ! (stop !)) (look ! 4 refl)) (and-then ! (load ! (place′ ! (stop !)) (look ! 11 refl)) (and-then ! (load ! (place′ ! (stop !)) (look ! 12 refl)) (and-then ! (load ! (place′ ! (stop !)) (look ! 8 refl)) (and-then ! (load ! (place′ ! (stop !)) (look ! 7 refl)) (no-more !))))))) (λ w.
           use1 W (later (some (λ (r′ : EventSet). ((‵ (flft κ₀ q₀) ⊛ ‵ (flft κ₁ q₁) ⊛ ‵ (flft (ν ∷ []) fullShare) ⊛ ‵ ftrue) ⊛ ‵ (S.the-row .own r′ (w ∷ []))) ⊛ raw (ensured 𝓤 H A look-at.ended (look-at.clauses 𝓤 H A mem run) (κ₀, (κ₁, (ν ∷ [], tt))) (args i r nx ν δ) tt r′)))) (id⊢ 𝓤 _) $ await ! tt $ pick ! (λ r′.
-          split ! $ move ! (1 ∷ []) $ use1 W (some (λ (zs : Unit {0} × (Unit {0} × (Unit {0} × (Unit {0} × (Unit {0} × (List ℕ × Unit {0})))))). ‵ (lasts look-at.ended (κ₀, (κ₁, (ν ∷ [], tt))) (args i r nx ν δ) zs) ⊛ raw (fact 𝓤 (LookAt bs i (y .now) a (bitsOf r) nx (bitsOf r′) (zs .1 .1 .1 .1 .1 .0))))) (id⊢ 𝓤 _) $ pick ! (λ zs.
-          split ! $ move ! (1 ∷ []) $ heard ! (LookAt bs i (y .now) a (bitsOf r) nx (bitsOf r′) (zs .1 .1 .1 .1 .1 .0)) (λ e.
+          split ! $ move ! (1 ∷ []) $ use1 W (some (λ (zs : Unit {0} × (Unit {0} × (Unit {0} × (Unit {0} × (Unit {0} × (List ℕ × Unit {0})))))). ‵ (lasts look-at.ended (κ₀, (κ₁, (ν ∷ [], tt))) (args i r nx ν δ) zs) ⊛ raw (fact 𝓤 (Look (y .now) a (boundAt bs i) (bitsOf r) nx (bitsOf r′) (zs .1 .1 .1 .1 .1 .0))))) (id⊢ 𝓤 _) $ pick ! (λ zs.
+          split ! $ move ! (1 ∷ []) $ heard ! (Look (y .now) a (boundAt bs i) (bitsOf r) nx (bitsOf r′) (zs .1 .1 .1 .1 .1 .0)) (λ e.
           fsplit ! $ drop ! $ fsplit ! $ drop ! $ fsplit ! $ drop ! $ fsplit ! $ drop ! $ fsplit ! $ drop ! $ fsplit ! $ fsplit ! $ move ! (1 ∷ []) $ feqL ! (λ l.
           move ! (2 ∷ []) $ split ! $ move ! (1 ∷ []) $ peeks ! S.the-row (Is S.the-row) (shows 𝓤 H A S.the-row) r′ (w ∷ []) (λ is′.
           -- [the result; the tokens; the last notes; …; the distances; the list; what is kept of the notes; _8; _9; _10; _11; _7; _1; …]
