@@ -32,7 +32,7 @@ use denote.Ref.{RefT}
 use denote.Slice.{sliceVal, ShrSlice, MutSlice, Room, finally, slice-vals, shr-slice-tells, mut-slice-tells, shr-slice-copy}
 use denote.Index.{place-is}
 use denote.Signature.{plain}
-use denote.Steps.{nothing, owned, peeks}
+use denote.Steps.{nothing, peeks}
 use denote.Struct.Laws as LL
 use denote.Triple.Entry.{Args, Vals, onEntry}
 use denote.Triple.Spec.{tripleOf}
@@ -50,8 +50,8 @@ use Rattle.chain.specs.declared.Bound.{Bound}
 use Rattle.chain.specs.Clash.{boundAt}
 use Rattle.chain.specs.Marks.{NOTES, Looking, Look}
 use Rattle.chain.proofs.Bound as T
-use Rattle.chain.proofs.Bound.Laws as T′
 use Rattle.chain.proofs.ByHand.{word-typed, slice-typed, bound-typed, set-typed, held, sets, locals, dead, skip, with-word}
+use Rattle.chain.proofs.ByHand.{with-bound, with-set}
 use Rattle.chain.proofs.ByHand.{ListOf, elem, mach, bound-out, bound-back, answered, by-walk}
 use Rattle.chain.proofs.look as look′
 use Rattle.chain.proofs.look.Symbol as look-def
@@ -155,9 +155,9 @@ module _ {M : Type 1} (𝓤 : URA M) (H : Heap 𝓤) (A : Atoms 𝓤) (W : Given
         qed W (tokens ∷ ‵ Far ∷ ‵ Area ∷ []) ∵ says ! asked $ frame ! $
         -- [the distances; the notes]
         nothing ! $ move ! (2 ∷ 0 ∷ []) $ fjoin ! $
-        owned ! S.the-row (Is S.the-row) (LL.makes S.the-type S′.the-plain 𝓤 H A) seen _ seen-is $ fjoin ! $
+        with-set ! seen _ seen-is $
         with-word ! a a-fits $
-        owned ! T.the-row (Is T.the-row) (LL.makes T.the-type T′.the-plain 𝓤 H A) (elem x k) _ is $ fjoin ! $
+        with-bound ! (elem x k) (mach x k) is $
         move ! (1 ∷ 0 ∷ []) $ fjoin ! $ done !
 
     -- what is had at the end
@@ -172,7 +172,7 @@ module _ {M : Type 1} (𝓤 : URA M) (H : Heap 𝓤) (A : Atoms 𝓤) (W : Given
         join ! $ frame ! $
         -- [the last notes; the list; the distances; the result]
         nothing ! $ move ! (1 ∷ 0 ∷ []) $ fjoin ! $
-        owned ! S.the-row (Is S.the-row) (LL.makes S.the-type S′.the-plain 𝓤 H A) seen _ seen-is $ fjoin ! $
+        with-set ! seen _ seen-is $
         with-word ! a a-fits $ move ! (2 ∷ 0 ∷ []) $ fjoin ! $
         with-word ! k k-fits $ move ! (1 ∷ 0 ∷ []) $ fjoin ! $ frame ! $ done !
 

@@ -55,7 +55,7 @@ use Rattle.chain.specs.Clash.{boundAt}
 use Rattle.chain.specs.Marks.{Looking, Look, Scanning, Scanned}
 use Rattle.chain.proofs.Bound as T
 use Rattle.chain.proofs.Lent.{at-list}
-use Rattle.chain.proofs.ByHand.{word-typed, slice-typed, set-typed, held, sets, from-to, dead, skip, with-word}
+use Rattle.chain.proofs.ByHand.{word-typed, slice-typed, set-typed, held, sets, from-to, dead, skip, with-word, with-set}
 use Rattle.chain.proofs.ByHand.{ListOf, lends-on, comes-on, answered, by-walk}
 use Rattle.chain.proofs.Searched.{searched, taken, left}
 use Rattle.chain.proofs.Marks.{Under, under-start, under-step, under-end}
@@ -212,7 +212,7 @@ module _ {M : Type 1} (𝓤 : URA M) (H : Heap 𝓤) (A : Atoms 𝓤) (W : Given
         move ! (1 ∷ 0 ∷ []) $ join ! $ frame ! $ split ! $
         -- [the list; the distances; the notes]
         nothing ! $ move ! (3 ∷ 0 ∷ []) $ fjoin ! $
-        owned ! S.the-row (Is S.the-row) (LL.makes S.the-type S′.the-plain 𝓤 H A) r _ is $ fjoin ! $
+        with-set ! r _ is $
         with-word ! a a-fits $ move ! (2 ∷ 0 ∷ []) $ fjoin ! $
         with-word ! i (omega (arith, small, m-fits)) $ move ! (1 ∷ 0 ∷ []) $ fjoin ! $ done !
       where
@@ -234,7 +234,7 @@ module _ {M : Type 1} (𝓤 : URA M) (H : Heap 𝓤) (A : Atoms 𝓤) (W : Given
         nothing ! $ move ! (2 ∷ 0 ∷ []) $ join ! $ move ! (3 ∷ 0 ∷ []) $ join ! $ move ! (2 ∷ 0 ∷ []) $ join ! $ frame ! $
         -- [the notes; the list; the distances]
         nothing ! $ move ! (1 ∷ 0 ∷ []) $ fjoin ! $
-        owned ! S.the-row (Is S.the-row) (LL.makes S.the-type S′.the-plain 𝓤 H A) from _ from-is $ fjoin ! $
+        with-set ! from _ from-is $
         with-word ! a a-fits $ move ! (2 ∷ 0 ∷ []) $ fjoin ! $
         with-word ! m m-fits $ move ! (1 ∷ 0 ∷ []) $ fjoin ! $ frame ! $
         owned ! S.the-row (Is S.the-row) (LL.makes S.the-type S′.the-plain 𝓤 H A) r _ is $ done !

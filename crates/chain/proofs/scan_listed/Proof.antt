@@ -32,7 +32,7 @@ use denote.Ref.{RefT}
 use denote.Slice.{sliceVal, ShrSlice, MutSlice, Room, finally, slice-vals, shr-slice-tells, mut-slice-tells, shr-slice-copy}
 use denote.Array.{array-vals, array-tells}
 use denote.Signature.{plain}
-use denote.Steps.{nothing, owned, peeks}
+use denote.Steps.{nothing, peeks}
 use denote.Struct.Laws as LL
 use denote.Triple.Entry.{Args, Vals, onEntry}
 use denote.Triple.Spec.{tripleOf}
@@ -51,8 +51,8 @@ use Rattle.chain.specs.declared.Bound.{Bound}
 use Rattle.chain.specs.Marks.{Scanning, Scanned}
 use Rattle.chain.proofs.Bound as T
 use Rattle.chain.proofs.Bound.Laws as T′
-use Rattle.chain.proofs.ByHand.{word-typed, slice-typed, set-typed, entries-typed, held, sets, locals, dead, skip, with-word}
-use Rattle.chain.proofs.ByHand.{Entries, in-local, lends-list, list-back, entries-twice, answered, by-walk}
+use Rattle.chain.proofs.ByHand.{word-typed, slice-typed, set-typed, entries-typed, held, sets, locals, dead, skip, with-word, with-set, with-entries}
+use Rattle.chain.proofs.ByHand.{Entries, in-local, lends-list, list-back, answered, by-walk}
 use Rattle.chain.proofs.scan as scan
 use Rattle.chain.proofs.scan.Symbol as scan-def
 use Rattle.chain.proofs.scan.Symbol.{name as #chain·scan}
@@ -115,10 +115,7 @@ module _ {M : Type 1} (𝓤 : URA M) (H : Heap 𝓤) (A : Atoms 𝓤) (W : Given
     abbrev entry : Walk .Ghost
     entry = ((κs, (q₁, (q₂, tt)), tt, args, at), tt)
 
-    -- what the list and the distances own, which are Copy, and the notes; and the tokens
-    abbrev Own : Fml
-    Own = Entries .own bs (u ∷ [])
-
+    -- what the distances own, which are Copy, and the notes; and the tokens
     abbrev Far : Fml
     Far = ShrSlice (named 0) κ₁ i32 .own y (v ∷ [])
 
@@ -166,24 +163,23 @@ module _ {M : Type 1} (𝓤 : URA M) (H : Heap 𝓤) (A : Atoms 𝓤) (W : Given
         qed W (with-μ μ ∷ (‵ (Slice l μ δ) ⊛ ‵ Far) ∷ ‵ Area ∷ []) ∵ says ! asks $ frame ! $ split ! $
         -- [the slice; the distances; the notes]
         nothing ! $ move ! (3 ∷ 0 ∷ []) $ fjoin ! $
-        owned ! S.the-row (Is S.the-row) (LL.makes S.the-type S′.the-plain 𝓤 H A) from _ from-is $ fjoin ! $
+        with-set ! from _ from-is $
         with-word ! a a-fits $ move ! (2 ∷ 0 ∷ []) $ fjoin ! $
         with-word ! m m-fits $ move ! (1 ∷ 0 ∷ []) $ fjoin ! $ done !
 
     -- what is had at the end
     abbrev Left : EventSet → Val → List ℕ → List (Item 𝓤)
-    Left r w zs = tokens ∷ ‵ (finally u16 (z .name) zs) ∷ ‵ Own ∷ ‵ Far ∷ ‵ (S.the-row .own r (w ∷ [])) ∷ []
+    Left r w zs = tokens ∷ ‵ (finally u16 (z .name) zs) ∷ ‵ Far ∷ ‵ (S.the-row .own r (w ∷ [])) ∷ []
 
     exits : (r : EventSet) (w : Val) (zs : List ℕ) → Done r zs → length zs ≡ length (z .now) → ent 𝓤 (⋆ 𝓤 H A (Left r w zs)) (Walk .post entry w)
     exits r w zs e l =
         qed W (Left r w zs) ∵
         suffices ! _ (ends-at 𝓤 H A listed.ended stayed (listed.clauses 𝓤 H A mem run) W entry w r
         (tt, (tt, (tt, (tt, (tt, (zs, tt)))))) (tt, (tt, (tt, (tt, (tt, (l, tt))))))) $ says ! e $ frame ! $
-        -- [the last notes; the list; the distances; the result]
-        nothing ! $ move ! (1 ∷ 0 ∷ []) $ fjoin ! $
-        owned ! S.the-row (Is S.the-row) (LL.makes S.the-type S′.the-plain 𝓤 H A) from _ from-is $ fjoin ! $
-        with-word ! a a-fits $ move ! (2 ∷ 0 ∷ []) $ fjoin ! $
-        with-word ! m m-fits $ move ! (1 ∷ 0 ∷ []) $ fjoin ! $ frame ! $ done !
+        -- [the last notes; the distances; the result]
+        nothing ! $ move ! (1 ∷ 0 ∷ []) $ fjoin ! $ with-set ! from _ from-is $
+        with-word ! a a-fits $ move ! (1 ∷ 0 ∷ []) $ fjoin ! $
+        with-word ! m m-fits $ with-entries ! bs u bs-is $ frame ! $ done !
 
     module _ (𝓣 : Tables 𝓤 H) (known : Triple 𝓤 (𝓣 .C #chain·scan) Scans) where
       walk : Room i32 (length (y .now)) → Room u16 (length (z .now)) → Asks
@@ -203,31 +199,31 @@ module _ {M : Type 1} (𝓤 : URA M) (H : Heap 𝓤) (A : Atoms 𝓤) (W : Given
           sets ! (addr ! (place′ ! (fld ! refl (hop ! (look-in ! 10 (sub ! 0 refl (whole !))) (stop !))))) 2 refl (tt, tt) $
           sets ! (agg ! (and-then ! (held ! 2 refl) (and-then ! (load ! (place′ ! (fld ! refl (stop !))) (look-in ! 10 (sub ! 1 refl (whole !)))) (no-more !))))
           0 refl (slice-typed (room₂ .0)) $
-          move ! (24 ∷ []) $ split ! $ move ! (26 ∷ []) $ fsplit ! $ use1 W (‵ Own ⊛ ‵ Own) (entries-twice W bs u) $ split ! $
-          -- [the list; the list; the other parameters'; the distances' token; the notes'; _11; …]; its elements are lent, shared, for μ
-          move ! (13 ∷ 0 ∷ []) $ lends-list ! tt bs l₇ u (asks .given .long) (λ μ ε.
-          -- [the slice; the lender's part; μ's token; the list; the other parameters'; the distances' token; the notes'; _11; …]
-          move ! (4 ∷ []) $ skip ! $ fsplit ! $ use1 W (‵ Far ⊛ ‵ Far) (shr-slice-copy 𝓤 H A W (named 0) κ₁ i32 .twice y (v ∷ [])) $ split ! $
+          move ! (24 ∷ []) $ split ! $ move ! (26 ∷ []) $ skip ! $
+          -- [the other parameters'; the distances' token; the notes'; _11; …]; the elements of _7 are lent, shared, for μ
+          move ! (11 ∷ []) $ lends-list ! tt bs l₇ u bs-is (asks .given .long) (λ μ ε.
+          -- [the slice; the lender's part; μ's token; the other parameters'; the distances' token; the notes'; _11; …]
+          move ! (3 ∷ []) $ skip ! $ fsplit ! $ use1 W (‵ Far ⊛ ‵ Far) (shr-slice-copy 𝓤 H A W (named 0) κ₁ i32 .twice y (v ∷ [])) $ split ! $
           move ! (2 ∷ []) $ skip ! $ skip ! $ fsplit ! $
-          -- [the notes; true; the distances; the distances; the slice; the lender's part; μ's token; the list; the distances' token; the notes'; _11; …]
-          move ! (8 ∷ 9 ∷ []) $ join ! $ move ! (7 ∷ 0 ∷ []) $ join ! $ move ! (5 ∷ 3 ∷ []) $ join ! $
+          -- [the notes; true; the distances; the distances; the slice; the lender's part; μ's token; the distances' token; the notes'; _11; …]
+          move ! (7 ∷ 8 ∷ []) $ join ! $ move ! (7 ∷ 0 ∷ []) $ join ! $ move ! (5 ∷ 3 ∷ []) $ join ! $
           move ! (1 ∷ 0 ∷ 2 ∷ []) $ use3 W (raw (Scans .pre (to-scan l₇ μ ε))) (goes asks l₇ μ ε) $
-          -- [what `scan` asks; true; the distances; the lender's part; the list; _11; …]: local i stands at 5 + 2 (11 - i), or one less below _7
+          -- [what `scan` asks; true; the distances; the lender's part; _11; …]: local i stands at 4 + 2 (11 - i), or one less below _7
           calls-at ! (fmOf 𝓤 H (W .laws) 𝓣) Scans known (to-scan l₇ μ ε)
-          (and-then ! (held ! 9 refl) (and-then ! (held ! 22 refl) (and-then ! (held ! 20 refl)
-          (and-then ! (held ! 18 refl) (and-then ! (held ! 16 refl) (and-then ! (held ! 5 refl) (no-more !))))))) (λ w.
+          (and-then ! (held ! 8 refl) (and-then ! (held ! 21 refl) (and-then ! (held ! 19 refl)
+          (and-then ! (held ! 17 refl) (and-then ! (held ! 15 refl) (and-then ! (held ! 4 refl) (no-more !))))))) (λ w.
           answered W tt (with-μ μ) (λ r. S.the-row .own r (w ∷ [])) (lasts scan.ended (μ ∷ [], (κ₁, (κ₂, tt))) (told l₇ μ ε))
           (λ r zs. Done r (zs .1 .1 .1 .1 .1 .0)) ! (λ r zs e.
           skip ! $ skip ! $ skip ! $ skip ! $ skip ! $ fsplit ! $ fsplit ! $ move ! (1 ∷ []) $ feqL ! (λ l.
           move ! (2 ∷ []) $ split ! $ move ! (1 ∷ []) $ peeks ! S.the-row (Is S.the-row) (shows 𝓤 H A S.the-row) r (w ∷ []) (λ is.
-          -- [the result; the tokens; the last notes; …; true; the distances; the lender's part; the list; _11; …]
-          land ! (place′ ! (stop !)) (init ! 29 refl (set-typed W r w is)) $
+          -- [the result; the tokens; the last notes; …; true; the distances; the lender's part; _11; …]
+          land ! (place′ ! (stop !)) (init ! 28 refl (set-typed W r w is)) $
           -- μ is ended, the elements come back, and the array is a local again
           move ! (1 ∷ []) $ split ! $ move ! (0 ∷ 7 ∷ []) $ list-back ! tt bs l₇ (asks .given .long) (λ n.
-          -- [_7; the tokens; the result; the last notes; …; true; the distances; the list; _11; …; _8; …; that _7 dies; _6; …]
-          returns ! (look ! 29 refl) $ move ! (locals 7 17 ++ (0 ∷ 16 ∷ locals 4 8)) $
+          -- [_7; the tokens; the result; the last notes; …; true; the distances; _11; …; _8; …; that _7 dies; _6; …]
+          returns ! (look ! 28 refl) $ move ! (locals 7 16 ++ (0 ∷ 15 ∷ locals 4 7)) $
           dead ! $ dead ! $ dead ! $ dead ! $ dead ! $ dead ! $ dead ! $ dead ! $ dead ! $ dead ! $ dead ! $ dead ! $ free0 ! $
-          keep ! (0 ∷ 2 ∷ 6 ∷ 5 ∷ 1 ∷ []) $ by ! (exits r w (zs .1 .1 .1 .1 .1 .0) e l)))))))))))))))))))
+          keep ! (0 ∷ 2 ∷ 5 ∷ 1 ∷ []) $ by ! (exits r w (zs .1 .1 .1 .1 .1 .0) e l)))))))))))))))))))
 
   listed-walks : (𝓣 : Tables 𝓤 H) → Triple 𝓤 (𝓣 .C #chain·scan) Scans
       → Walks 𝓤 H A listed.ended stayed (WpFn 𝓤 H (𝓣 .C) (𝓣 .Λ) code.function) (listed.clauses 𝓤 H A mem run)
