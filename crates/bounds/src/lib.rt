@@ -92,8 +92,9 @@ fn horizon_bounds(n: usize, h: u32) -> [Bound; MOST_BOUNDS]
 {
     let mut list = [nothing(); MOST_BOUNDS];
     for e in 1..n {
-        list[2 * e - 2] = horizon_upper(e, h);
-        list[2 * e - 1] = horizon_lower(e);
+        let i = 2 * (e - 1);
+        list[i] = horizon_upper(e, h);
+        list[i + 1] = horizon_lower(e);
     }
     list
 }
@@ -107,8 +108,9 @@ fn with_records(list: [Bound; MOST_BOUNDS], base: usize, h: Plan) -> [Bound; MOS
     let mut all = list;
     for k in 0..h.count {
         let r = h.records[k];
-        all[base + 2 * k] = record_upper(k, r);
-        all[base + 2 * k + 1] = record_lower(k, r);
+        let i = base + 2 * k;
+        all[i] = record_upper(k, r);
+        all[i + 1] = record_lower(k, r);
     }
     all
 }

@@ -30,7 +30,8 @@ listed-at (x ∷ xs) (suc m) zero l h = List·Memᴰ·head refl
 listed-at (x ∷ xs) (suc m) (suc k) l h = List·Memᴰ·tail (listed-at xs m k (omega arith) (omega arith))
 
 -- along a way whose bounds are noted at their starts the notes have its codes
-codes-are : (nx : List ℕ) {e a : ℕ} {bs : List Bound} → Leads e bs a → ((x : Bound) → List·Memᴰ x bs → Noted nx x) → codesFrom nx e (length bs) ≡ map (λ b. b .code) bs
+codes-are : (nx : List ℕ) {e a : ℕ} {bs : List Bound} → Leads e bs a → ((x : Bound) → List·Memᴰ x bs → Noted nx x)
+    → codesFrom nx e (length bs) ≡ map (λ b. b .code) bs
 codes-are nx stop f = refl
 codes-are nx (step {b = b} {bs = bs} l) f =
     let h = f b (List·Memᴰ·head refl) in
@@ -150,12 +151,17 @@ module _ (list : List Entry) (d : List ℤ) (n m : ℕ) (nx : List ℕ) (broken 
       chain = parted .back ++ parted .front
 
       counted : ones r ≡ length chain
-      counted = omega (arith, events .count, ap length (parted .whole), length-append (parted .front) (parted .back), length-append (parted .back) (parted .front))
+      counted =
+          let f = parted .front in
+          let b = parted .back in
+          omega (arith, events .count, ap length (parted .whole), length-append f b, length-append b f)
 
       -- what was written by the notes from the least event on is the chain
-      pub found : (from : ℕ) (before after : List ℕ) → from ≡ first → after ≡ over (codesFrom closed from (ones r)) before → Found (listed list (m + 1)) before (ones r) after
+      pub found : (from : ℕ) (before after : List ℕ) → from ≡ first → after ≡ over (codesFrom closed from (ones r)) before
+          → Found (listed list (m + 1)) before (ones r) after
       found from before after e w =
           let turned = loop-turn loop parted in
+          let codes = codes-are closed (turned .closed) (λ x i. noted x (turned-back parted i)) in
           record {
             steps = chain;
             from = first;
@@ -167,5 +173,5 @@ module _ (list : List Entry) (d : List ℤ) (n m : ℕ) (nx : List ℕ) (broken 
                 let j = turned-back parted i in
                 lowest-least WIDTH r (x .start) (visited x j) (start-low (bound-fit x j));
             counted = counted;
-            written = w ∙ ap (λ (l : List ℕ). over l before) (ap₂ (codesFrom closed) e counted ∙ codes-are closed (turned .closed) (λ x i. noted x (turned-back parted i)));
+            written = w ∙ ap (λ (l : List ℕ). over l before) (ap₂ (codesFrom closed) e counted ∙ codes);
           }

@@ -158,7 +158,7 @@ module _ {M : Type 1} (𝓤 : URA M) (H : Heap 𝓤) (A : Atoms 𝓤) (W : Given
           rewrite ! 6 (λ (p : ℕ). ‵ (fat fullShare tyPtr l₇ 0 (vptr (x .ptr .0) p))) (sym (place-is 8 (x .ptr .1) k)) refl $
           move ! (22 ∷ []) $ split ! $ move ! (24 ∷ []) $ fsplit ! $ move ! (0 ∷ 2 ∷ []) $
           bound-out ! tt x k within (λ share g.
-          -- [list[k]; what it owns; the others; what shuts; the borrow; the list; the other parameters'; the matrix's token; _10; …]: i stands at 8 + 2 (10 - i)
+          -- [list[k]; what it owns; the others; what shuts; the borrow; the list; the parameters'; the matrix's token; _10; …]: i stands at 8 + 2 (10 - i)
           sets ! (of-opd ! (load ! (from ! (hop ! (look ! 14 refl) (stop !))) (look-raw ! 0 refl))) 12 refl (bound-typed W (elem x k) (mach x k) g) $
           sets ! (of-opd ! (held ! 12 refl)) 18 refl (bound-typed W (elem x k) (mach x k) g) $
           bound-back ! tt share x k within $

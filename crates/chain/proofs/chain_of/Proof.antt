@@ -117,7 +117,8 @@ gone c =
     let n = noted c in
     let f = ends-read (marked n) in
     let v = rw (n .note .ensures) at (c .events .ensures) in
-    to-ends f (λ a b. Visited (closed (marked n)) a b (bitsOf (c .events .result))) v .events _ (closed-path _ _ _ _ _ (begun c .pre .0 .1) _ (reached (marked n)))
+    to-ends f (λ a b. Visited (closed (marked n)) a b (bitsOf (c .events .result))) v
+    .events _ (closed-path _ _ _ _ _ (begun c .pre .0 .1) _ (reached (marked n)))
 
 lowest-requires : tie.Need-lowest-requires
 lowest-requires c κs = search needs

@@ -283,7 +283,8 @@ module _ {M : Type 1} (𝓤 : URA M) (H : Heap 𝓤) (A : Atoms 𝓤) (W : Given
             sets ! (bin ! (held ! 0 refl) (held ! 12 refl) tt) 1 refl (tt, tt) $
             rewrite ! 1 (λ (b : Bool). ‵ (fat fullShare tyBool l₉ 0 (vbool b))) (taken i m small) refl $ stays ! (held ! 1 refl) $
             sets ! (addr ! (place′ ! (fld ! refl (hop ! (look-in ! 16 (sub ! 0 refl (whole !))) (stop !))))) 2 refl (tt, tt) $
-            sets ! (agg ! (and-then ! (held ! 2 refl) (and-then ! (load ! (place′ ! (fld ! refl (stop !))) (look-in ! 16 (sub ! 1 refl (whole !)))) (no-more !))))
+            sets !
+            (agg ! (and-then ! (held ! 2 refl) (and-then ! (load ! (place′ ! (fld ! refl (stop !))) (look-in ! 16 (sub ! 1 refl (whole !)))) (no-more !))))
             3 refl (slice-typed (room .0)) $
             -- the notes are lent again for a lifetime ν of the call
             move ! (5 ∷ 6 ∷ []) $ lends-on u16 (named 2) κ₂ q₂ (z .name) (z .ptr .0) (z .ptr .1) nx ! tt (λ ν δ.
