@@ -2,7 +2,7 @@
 -- call; then its memory is freed. The matrix is handed on at its own lifetime, share and ghost name, so it is given up for good.
 use mathlib.Core.Path.{_≡_, refl}
 use Prim.Native.Nat.{ℕ, _<_, _^_}
-use mathlib.Core.List.{List, [], _∷_, _++_}
+use mathlib.Core.List.{List, [], _∷_}
 use lib.ListN.{length}
 use lib.IntN.{ℤ}
 use lib.Dec.{lit<}
@@ -46,7 +46,7 @@ use Rattle.chain.specs.declared.Bound.{Bound as Entry}
 use Rattle.chain.specs.Clash.{MOST-BOUNDS}
 use Rattle.chain.proofs.Bound as T
 use Rattle.chain.proofs.Bound.Laws as T′
-use Rattle.chain.proofs.ByHand.{word-typed, slice-typed, entries-typed, held, sets, locals, dead, skip, with-word, with-entries}
+use Rattle.chain.proofs.ByHand.{word-typed, slice-typed, entries-typed, held, sets, dead, skip, with-word, with-entries}
 use Rattle.chain.proofs.ByHand.{Entries, in-local, lends-list, list-back, answered, by-walk}
 use Rattle.bounds.specs.Tried.{Trying, Tried}
 use Rattle.bounds.proofs.try_listed as try-listed
@@ -201,8 +201,9 @@ module _ {M : Type 1} (𝓤 : URA M) (H : Heap 𝓤) (A : Atoms 𝓤) (W : Given
           -- μ is ended, the elements come back, and the array is a local again
           move ! (1 ∷ []) $ split ! $ move ! (0 ∷ 6 ∷ []) $ list-back ! tt list l₆ (asks .given .long) (λ v.
           -- [_6; the matrix's token; the result; the last matrix; …; n's; _10; …; _7; …; that _6 dies; _5; …]
-          returns ! (look ! 25 refl) $ move ! (locals 6 15 ++ (0 ∷ 14 ∷ locals 4 6)) $
-          dead ! $ dead ! $ dead ! $ dead ! $ dead ! $ dead ! $ dead ! $ dead ! $ dead ! $ dead ! $ dead ! $ free0 ! $
+          returns ! (look ! 25 refl) $
+          dead ! 25 25 refl $ dead ! 23 23 refl $ dead ! 21 21 refl $ dead ! 19 19 refl $ dead ! 17 17 refl $ dead ! 15 15 refl $ dead ! 0 13 refl $
+          dead ! 11 11 refl $ dead ! 9 9 refl $ dead ! 7 7 refl $ dead ! 5 5 refl $ free0 ! $
           keep ! (0 ∷ 2 ∷ 1 ∷ []) $ by ! (exits r w (zs .1 .1 .1 .0) e l))))))))))))))))))
 
   try-all-walks : (𝓣 : Tables 𝓤 H) → Triple 𝓤 (𝓣 .C #try-listed) TryListed

@@ -45,7 +45,7 @@ use denote.Exit.{yes}
 use Rattle.chain.specs.declared.Bound.{Bound as Entry}
 use Rattle.chain.specs.Clash.{boundAt}
 use Rattle.chain.proofs.Bound as T
-use Rattle.chain.proofs.ByHand.{word-typed, slice-typed, bound-typed, held, sets, locals, dead, skip, with-word, with-bound}
+use Rattle.chain.proofs.ByHand.{word-typed, slice-typed, bound-typed, held, sets, dead, skip, with-word, with-bound}
 use Rattle.chain.proofs.ByHand.{ListOf, elem, mach, bound-out, bound-back, answered, by-walk}
 use Rattle.bounds.specs.Tried.{AddingOf, AddedOf}
 use Rattle.bounds.proofs.try_bound as try-bound
@@ -174,8 +174,9 @@ module _ {M : Type 1} (𝓤 : URA M) (H : Heap 𝓤) (A : Atoms 𝓤) (W : Given
           skip ! $ fsplit ! $ fsplit ! $ move ! (1 ∷ []) $ feqL ! (λ l.
           move ! (2 ∷ []) $ split ! $ move ! (1 ∷ []) $ peeks ! bool (Is bool) (shows 𝓤 H A bool) r (w ∷ []) (λ is.
           -- [the result; the matrix's token; the last matrix; …; n's; the list's token; the list; _10; …]: local i stands at 7 + 2 (10 - i)
-          land ! (from ! (stop !)) (init ! 27 refl (bool-lawful 𝓤 H A W .typed r _ is .0)) $ returns ! (look ! 27 refl) $ move ! (locals 11 7) $
-          dead ! $ dead ! $ dead ! $ dead ! $ dead ! $ dead ! $ dead ! $ dead ! $ dead ! $ dead ! $ dead ! $ free0 ! $
+          land ! (from ! (stop !)) (init ! 27 refl (bool-lawful 𝓤 H A W .typed r _ is .0)) $ returns ! (look ! 27 refl) $
+          dead ! 27 27 refl $ dead ! 25 25 refl $ dead ! 23 23 refl $ dead ! 21 21 refl $ dead ! 19 19 refl $ dead ! 17 17 refl $ dead ! 15 15 refl $
+          dead ! 13 13 refl $ dead ! 11 11 refl $ dead ! 9 9 refl $ dead ! 7 7 refl $ free0 ! $
           keep ! (5 ∷ 1 ∷ 2 ∷ 6 ∷ 0 ∷ []) $ by ! (exits r w (zs .1 .0) e l)))))))))))))))))
         where
           far : k * 8 < 2 ^ 64

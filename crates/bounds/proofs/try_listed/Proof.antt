@@ -92,12 +92,6 @@ matrix = sliceTy (tyRef (named 1) mut (tyInt w32))
 abbrev again : Ty
 again = tyRef erased mut (tyInt w32)
 
--- where the locals stand when the loop is left, each with that it dies, in the order in which they are freed
-abbrev order : List ℕ
-order =
-    14 ∷ 15 ∷ 9 ∷ 16 ∷ 10 ∷ 17 ∷ 11 ∷ 18 ∷ 12 ∷ 19 ∷ 13 ∷ 20
-    ∷ 0 ∷ 21 ∷ 1 ∷ 22 ∷ 2 ∷ 23 ∷ 3 ∷ 24 ∷ 4 ∷ 25 ∷ []
-
 -- where what a turn begins with stands when one was run
 abbrev turn : List ℕ
 turn = 7 ∷ 8 ∷ 9 ∷ 10 ∷ 11 ∷ 0 ∷ 1 ∷ 3 ∷ 6 ∷ from-to 12 17
@@ -254,8 +248,9 @@ module _ {M : Type 1} (𝓤 : URA M) (H : Heap 𝓤) (A : Atoms 𝓤) (W : Given
         rest-at i d tried =
             qed W (At i d) ∵ exec ! (𝓣 .C) (𝓣 .Λ) E body.t-3 (atRet E (Walk .post entry)) $
             sets ! (of-opd ! (held ! 0 refl)) 14 refl (word-typed (omega (arith, tried .high, to-fits))) $
-            returns ! (look ! 14 refl) $ move ! order $
-            dead ! $ dead ! $ dead ! $ dead ! $ dead ! $ dead ! $ dead ! $ free1 ! $ free1 ! $ free1 ! $ free1 ! $ free0 ! $
+            returns ! (look ! 14 refl) $
+            dead ! 14 14 refl $ dead ! 9 13 refl $ dead ! 9 12 refl $ dead ! 9 11 refl $ dead ! 9 10 refl $ dead ! 9 9 refl $ dead ! 0 8 refl $
+            move ! (0 ∷ 8 ∷ []) $ free1 ! $ move ! (0 ∷ 7 ∷ []) $ free1 ! $ move ! (0 ∷ 6 ∷ []) $ free1 ! $ move ! (0 ∷ 5 ∷ []) $ free1 ! $ free0 ! $
             by ! (exits i d tried)
 
         -- the turn at which the test fails

@@ -50,7 +50,7 @@ use Rattle.chain.specs.declared.Bound.{Bound}
 use Rattle.chain.specs.Clash.{boundAt}
 use Rattle.chain.specs.Marks.{NOTES, Looking, Look}
 use Rattle.chain.proofs.Bound as T
-use Rattle.chain.proofs.ByHand.{word-typed, slice-typed, bound-typed, set-typed, held, sets, locals, dead, skip, with-word}
+use Rattle.chain.proofs.ByHand.{word-typed, slice-typed, bound-typed, set-typed, held, sets, dead, skip, with-word}
 use Rattle.chain.proofs.ByHand.{with-bound, with-set}
 use Rattle.chain.proofs.ByHand.{ListOf, elem, mach, bound-out, bound-back, answered, by-walk}
 use Rattle.chain.proofs.look as look′
@@ -215,8 +215,9 @@ module _ {M : Type 1} (𝓤 : URA M) (H : Heap 𝓤) (A : Atoms 𝓤) (W : Given
           skip ! $ skip ! $ skip ! $ skip ! $ fsplit ! $ fsplit ! $ move ! (1 ∷ []) $ feqL ! (λ l.
           move ! (2 ∷ []) $ split ! $ move ! (1 ∷ []) $ peeks ! S.the-row (Is S.the-row) (shows 𝓤 H A S.the-row) r (w ∷ []) (λ is.
           -- [the result; the tokens; the last notes; …; true; the distances; the list's token; the list; _12; …]: local i stands at 8 + 2 (12 - i)
-          land ! (from ! (stop !)) (init ! 32 refl (set-typed W r w is)) $ returns ! (look ! 32 refl) $ move ! (locals 13 8) $
-          dead ! $ dead ! $ dead ! $ dead ! $ dead ! $ dead ! $ dead ! $ dead ! $ dead ! $ dead ! $ dead ! $ dead ! $ dead ! $ free0 ! $
+          land ! (from ! (stop !)) (init ! 32 refl (set-typed W r w is)) $ returns ! (look ! 32 refl) $
+          dead ! 32 32 refl $ dead ! 30 30 refl $ dead ! 28 28 refl $ dead ! 26 26 refl $ dead ! 24 24 refl $ dead ! 22 22 refl $ dead ! 20 20 refl $
+          dead ! 18 18 refl $ dead ! 16 16 refl $ dead ! 14 14 refl $ dead ! 12 12 refl $ dead ! 10 10 refl $ dead ! 8 8 refl $ free0 ! $
           keep ! (6 ∷ 1 ∷ 2 ∷ 7 ∷ 5 ∷ 0 ∷ []) $ by ! (exits r w (zs .1 .1 .1 .1 .0) e l)))))))))))))))))))
         where
           far : k * 8 < 2 ^ 64

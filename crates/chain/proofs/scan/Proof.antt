@@ -107,12 +107,6 @@ notesTy = sliceTy (tyRef (named 2) mut (tyInt w16))
 abbrev again : Ty
 again = tyRef erased mut (tyInt w16)
 
--- where the locals stand when the loop is left, each with that it dies, in the order in which they are freed
-abbrev order : List ℕ
-order =
-    17 ∷ 18 ∷ 11 ∷ 19 ∷ 12 ∷ 20 ∷ 13 ∷ 21 ∷ 14 ∷ 22 ∷ 15 ∷ 23
-    ∷ 16 ∷ 24 ∷ 4 ∷ 25 ∷ 0 ∷ 26 ∷ 1 ∷ 27 ∷ 2 ∷ 28 ∷ 3 ∷ 29 ∷ []
-
 module _ {M : Type 1} (𝓤 : URA M) (H : Heap 𝓤) (A : Atoms 𝓤) (W : Given 𝓤 H A) (mem : Memory → SProp 𝓤) (run : Routine → Fun 𝓤) where
   -- the contract that the proof cites
   abbrev Looks : Contract 𝓤
@@ -334,8 +328,10 @@ module _ {M : Type 1} (𝓤 : URA M) (H : Heap 𝓤) (A : Atoms 𝓤) (W : Given
             sets ! (bin ! (held ! 0 refl) (held ! 12 refl) tt) 1 refl (tt, tt) $
             rewrite ! 1 (λ (b : Bool). ‵ (fat fullShare tyBool l₉ 0 (vbool b))) (ap (λ (j : ℕ). ltb j m) p ∙ left m) refl $
             leaves-loop ! (held ! 1 refl) $ exec ! (𝓣 .C) (𝓣 .Λ) E body.t-4 (atRet E (Walk .post entry)) $
-            sets ! (of-opd ! (held ! 4 refl)) 17 refl (set-typed W r u is) $ returns ! (look ! 17 refl) $ move ! order $
-            dead ! $ dead ! $ dead ! $ dead ! $ dead ! $ dead ! $ dead ! $ dead ! $ dead ! $ dead ! $ free1 ! $ free1 ! $ free0 ! $
+            sets ! (of-opd ! (held ! 4 refl)) 17 refl (set-typed W r u is) $ returns ! (look ! 17 refl) $
+            dead ! 17 17 refl $ dead ! 11 16 refl $ dead ! 11 15 refl $ dead ! 11 14 refl $ dead ! 11 13 refl $ dead ! 11 12 refl $
+            dead ! 11 11 refl $ dead ! 4 10 refl $ dead ! 0 9 refl $ dead ! 0 8 refl $ move ! (0 ∷ 8 ∷ []) $ free1 ! $ move ! (0 ∷ 7 ∷ []) $ free1 ! $
+            free0 ! $
             by ! (exits r u nx is (under-end (x .now) (y .now) m a (bitsOf from) (z .now) i (bitsOf r) nx h (omega (arith, p))) (h .long))
 
         one : (n : ℕ) (st : State) (X : SProp 𝓤) → P n st → ((j : ℕ) (st′ : State) → j < n → P j st′ → ent 𝓤 (AtState st′) X)

@@ -2,7 +2,7 @@
 -- for a lifetime μ, and its memory is freed. The notes go to `scan` at their own lifetime, share and ghost name.
 use mathlib.Core.Path.{_≡_, refl}
 use Prim.Native.Nat.{ℕ, _<_, _^_}
-use mathlib.Core.List.{List, [], _∷_, _++_}
+use mathlib.Core.List.{List, [], _∷_}
 use lib.ListN.{length}
 use lib.IntN.{ℤ}
 use lib.Dec.{lit<}
@@ -51,7 +51,7 @@ use Rattle.chain.specs.declared.Bound.{Bound}
 use Rattle.chain.specs.Marks.{Scanning, Scanned}
 use Rattle.chain.proofs.Bound as T
 use Rattle.chain.proofs.Bound.Laws as T′
-use Rattle.chain.proofs.ByHand.{word-typed, slice-typed, set-typed, entries-typed, held, sets, locals, dead, skip, with-word, with-set, with-entries}
+use Rattle.chain.proofs.ByHand.{word-typed, slice-typed, set-typed, entries-typed, held, sets, dead, skip, with-word, with-set, with-entries}
 use Rattle.chain.proofs.ByHand.{Entries, in-local, lends-list, list-back, answered, by-walk}
 use Rattle.chain.proofs.scan as scan
 use Rattle.chain.proofs.scan.Symbol as scan-def
@@ -221,8 +221,9 @@ module _ {M : Type 1} (𝓤 : URA M) (H : Heap 𝓤) (A : Atoms 𝓤) (W : Given
           -- μ is ended, the elements come back, and the array is a local again
           move ! (1 ∷ []) $ split ! $ move ! (0 ∷ 7 ∷ []) $ list-back ! tt bs l₇ (asks .given .long) (λ n.
           -- [_7; the tokens; the result; the last notes; …; true; the distances; _11; …; _8; …; that _7 dies; _6; …]
-          returns ! (look ! 28 refl) $ move ! (locals 7 16 ++ (0 ∷ 15 ∷ locals 4 7)) $
-          dead ! $ dead ! $ dead ! $ dead ! $ dead ! $ dead ! $ dead ! $ dead ! $ dead ! $ dead ! $ dead ! $ dead ! $ free0 ! $
+          returns ! (look ! 28 refl) $
+          dead ! 28 28 refl $ dead ! 26 26 refl $ dead ! 24 24 refl $ dead ! 22 22 refl $ dead ! 20 20 refl $ dead ! 18 18 refl $ dead ! 16 16 refl $
+          dead ! 0 14 refl $ dead ! 12 12 refl $ dead ! 10 10 refl $ dead ! 8 8 refl $ dead ! 6 6 refl $ free0 ! $
           keep ! (0 ∷ 2 ∷ 5 ∷ 1 ∷ []) $ by ! (exits r w (zs .1 .1 .1 .1 .1 .0) e l)))))))))))))))))))
 
   listed-walks : (𝓣 : Tables 𝓤 H) → Triple 𝓤 (𝓣 .C #chain·scan) Scans
