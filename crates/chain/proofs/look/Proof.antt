@@ -1,8 +1,8 @@
 -- `chain::look` marks an event or leaves all as it is: each return is one of the two cases of `Look`.
 use borrow.Author.Needs.{needs}
 use borrow.Author.Tests.{not-true, not-false}
-use mathlib.Core.Path.{_≡_, refl, sym, _∙_}
-use Rattle.eventset.specs.Sets.{bitsOf, member}
+use mathlib.Core.Path.{_≡_, refl, sym, ap, _∙_}
+use Rattle.eventset.specs.Sets.{bitsOf, member, putIn}
 use Rattle.chain.specs.Marks.Look.{kept, marked}
 use Rattle.chain.proofs.Marks.{not-both}
 use Rattle.chain.proofs.look.Statement.{statement}
@@ -66,12 +66,12 @@ returns-4 : tie.Need-returns-4
 returns-4 c =
     let e = noting c in
     let q = tested e in
-    let u = q .before .before .before .before .from-u8 .ensures in
+    let f = q .before .before .before in
     marked
     (sym (start-told (q .before .before)) ∙ q .before .if1 .left)
     (sym (end-told q) ∙ not-false _ (e .before .before .if2 .left))
     (e .before .tight .ensures .taken (not-false _ (e .if3 .left)))
-    (rw u at (c .put .ensures))
+    (c .put .ensures ∙ ap (putIn (bitsOf (start f .args .seen))) (f .before .from-u8 .ensures))
     (c .before .before .before .note .ensures)
 
 pub look-spec : {M : Type 1} → statement M
