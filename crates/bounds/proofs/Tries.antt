@@ -13,7 +13,7 @@ use lib.IntN.{ℤ, pos, _+ℤ_}
 use lib.Signed.{leZ, _≤ℤ_, _<ℤ_}
 use Rattle.ticks.proofs.Ticks.{ticks, sum, leZ-false}
 use Rattle.meaning.specs.Plan.{Times}
-use Rattle.meaning.specs.Bounds.{Bound, Holds}
+use Rattle.meaning.specs.Bounds.{Holds}
 use Rattle.meaning.specs.Distances.{Keeps, Meets, Clashes}
 use Rattle.meaning.proofs.Distances.{same-set}
 use Rattle.meaning.proofs.Walks.{Walks, walks-same}

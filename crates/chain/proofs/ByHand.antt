@@ -10,7 +10,7 @@
 --     answered         what a callee promises: its result, the last lists, and the fact
 --     by-walk          a walk of a function that calls one other proves its contract
 use mathlib.Core.Path.{_≡_, refl, sym, subst}
-use Prim.Native.Nat.{ℕ, zero, suc, _+_, _*_, _^_, _<_}
+use Prim.Native.Nat.{ℕ, zero, suc, _^_, _<_}
 use mathlib.Core.List.{List, [], _∷_}
 use lib.ListN.{length, getD}
 use lib.Dec.{T as Holds, lit<}
@@ -34,7 +34,7 @@ use types.Share.{arr-parts}
 use types.Tokens.{lft-new, lft-end, lent-back}
 use denote.RattleType.{RattleType}
 use denote.Laws.{Is, shows}
-use denote.Memory.{shares, lone, cellAt, mem}
+use denote.Memory.{shares, lone, cellAt}
 use denote.Plain.{uint-makes}
 use denote.Builtin.{usize}
 use denote.Ref.{RefT}

@@ -1,9 +1,9 @@
 -- `chain::events` follows the notes from b to a. Each event on the way is new in the set, so that the loop ends; what the set is at the
 -- end, `Passing` says of every way by the notes.
-use mathlib.Core.Path.{_≡_, sym, ap, subst}
+use mathlib.Core.Path.{_≡_, ap}
 use mathlib.Core.Bool.{false}
 use mathlib.Core.List.{List}
-use Prim.Native.Nat.{ℕ, _-_, _<_}
+use Prim.Native.Nat.{_-_, _<_}
 use native.Mathlib.Omega.{arith}
 use lib.Count.{ones, ones-le}
 use Rattle.eventset.specs.Sets.{WIDTH, bitsOf, member}

@@ -47,7 +47,7 @@ use denote.Triple.Walked.{says, needs, Stays, stay-none-slice, stay-none, stay-s
 use denote.Triple.Walked.{goes-none-slice, goes-none, goes-slice}
 use denote.Exit.{yes}
 use Rattle.eventset.specs.declared.EventSet.{EventSet}
-use Rattle.eventset.specs.Sets.{WIDTH, bitsOf}
+use Rattle.eventset.specs.Sets.{bitsOf}
 use Rattle.eventset.proofs.EventSet as S
 use Rattle.eventset.proofs.EventSet.Laws as S′
 use Rattle.chain.specs.declared.Bound.{Bound}
