@@ -1,5 +1,6 @@
 -- Steps that the walks by hand share, in the calculus of `types.Kit`.
 --     word-typed, slice-typed, bound-typed, entries-typed, set-typed       a value has its type
+--     stay-word, stay-set, stay-entries        what is had of a plain parameter at exit
 --     held, sets       what a local holds is read; a local is set
 --     from-to, dead    n places in a row; a local dies with what it holds
 --     skip             the first part of a formula is let go
@@ -42,13 +43,15 @@ use denote.Slice.{sliceVal, ShrSlice, MutSlice, Room, finally, shr-slice-copy}
 use denote.Index.{place as place-of, others, elem-out, elem-back, looks-slice, shuts-slice}
 use denote.Lend.{lends-shr-slice}
 use denote.Array.{Array, array-lawful, array-makes}
+use denote.Signature.{plain}
 use denote.Steps.{owned, heard}
 use denote.Struct.Laws as LL
 use denote.Triple.Statement.{Contract, Triple}
 use denote.Triple.Spec.{tripleOf}
 use denote.Triple.Clauses.{Clauses, Ended, closing}
 use denote.Triple.Table.{entered, cited}
-use denote.Triple.Walked.{Stays, AllGo, Walks, walk-meets}
+use denote.Triple.Walked.{Stay, stay-none, Stays, AllGo, Walks, walk-meets}
+use denote.Exit.{yes}
 use Rattle.eventset.specs.declared.EventSet.{EventSet}
 use Rattle.eventset.proofs.EventSet as S
 use Rattle.eventset.proofs.EventSet.Laws as S′
@@ -84,6 +87,17 @@ module _ {M : Type 1} {𝓤 : URA M} {H : Heap 𝓤} {A : Atoms 𝓤} (W : Given
 
   pub set-typed : (r : EventSet) (v : Val) → Is S.the-row r (v ∷ []) → Holds (hasTy S′.mir v) × WT v
   set-typed r v is = LL.lawful S.the-type S′.the-laws 𝓤 H A W .typed r (v ∷ []) is .0
+
+-- what is had at exit of a word, of a set of events and of all bounds: what was passed
+module _ {n : ℕ} where
+  abbrev pub stay-word : Stay {n = n} (plain (λ _. usize)) yes
+  stay-word = stay-none (λ _. usize) yes
+
+  abbrev pub stay-set : Stay {n = n} (plain (λ _. S.the-row)) yes
+  stay-set = stay-none (λ _. S.the-row) yes
+
+  abbrev pub stay-entries : Stay {n = n} (plain (λ _. Entries)) yes
+  stay-entries = stay-none (λ _. Entries) yes
 
 -- ---- a list of bounds, lent
 

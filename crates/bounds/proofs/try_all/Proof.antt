@@ -39,7 +39,7 @@ use denote.Triple.Spec.{tripleOf}
 use denote.Triple.Statement.{Contract, Triple}
 use denote.Triple.Call.{calls-at}
 use denote.Triple.Clauses.{lasts}
-use denote.Triple.Walked.{says, needs, Stays, stay-none, gave-slice, walkOf, ends-at, Walks, walked}
+use denote.Triple.Walked.{says, needs, Stays, gave-slice, walkOf, ends-at, Walks, walked}
 use denote.Triple.Walked.{goes-none, goes-gave-slice}
 use denote.Exit.{yes}
 use Rattle.chain.specs.declared.Bound.{Bound as Entry}
@@ -47,7 +47,7 @@ use Rattle.chain.specs.Clash.{MOST-BOUNDS}
 use Rattle.chain.proofs.Bound as T
 use Rattle.chain.proofs.Bound.Laws as T′
 use Rattle.chain.proofs.ByHand.{word-typed, slice-typed, entries-typed, held, sets, dead, skip, with-word, with-entries}
-use Rattle.chain.proofs.ByHand.{Entries, in-local, lends-list, list-back, answered, by-walk}
+use Rattle.chain.proofs.ByHand.{Entries, in-local, lends-list, list-back, answered, by-walk, stay-word, stay-entries}
 use Rattle.bounds.specs.Tried.{Trying, Tried}
 use Rattle.bounds.proofs.try_listed as try-listed
 use Rattle.bounds.proofs.try_listed.Symbol as try-listed-def
@@ -60,19 +60,7 @@ use Rattle.bounds.proofs.try_all.Code as code
 
 -- what is had of each parameter at exit
 abbrev stayed : Stays (try-all.ended .signature .params) (try-all.ended .kept)
-stayed = (
-  stay-none (λ _. Entries) yes,
-  (
-    stay-none (λ _. usize) yes,
-    (
-      stay-none (λ _. usize) yes,
-      (
-        gave-slice (0 ∷ []) tt (plain (λ _. i32)),
-        (stay-none (λ _. usize) yes, tt),
-      ),
-    ),
-  ),
-)
+stayed = (stay-entries, (stay-word, (stay-word, (gave-slice (0 ∷ []) tt (plain (λ _. i32)), (stay-word, tt)))))
 
 module _ {M : Type 1} (𝓤 : URA M) (H : Heap 𝓤) (A : Atoms 𝓤) (W : Given 𝓤 H A) (mem : Memory → SProp 𝓤) (run : Routine → Fun 𝓤) where
   -- the contract that the proof cites
@@ -210,19 +198,11 @@ module _ {M : Type 1} (𝓤 : URA M) (H : Heap 𝓤) (A : Atoms 𝓤) (W : Given
       → Walks 𝓤 H A try-all.ended stayed (WpFn 𝓤 H (𝓣 .C) (𝓣 .Λ) code.function) (try-all.clauses 𝓤 H A mem run)
   try-all-walks 𝓣 known = walked 𝓤 H A try-all.ended stayed (try-all.clauses 𝓤 H A mem run) (WpFn 𝓤 H (𝓣 .C) (𝓣 .Λ) code.function)
       (λ κs. (array-vals (LL.vals T.the-type T′.the-laws), (uint-vals w64, (uint-vals w64, (slice-vals, (uint-vals w64, tt))))))
-      (λ κs. (
-        array-tells T.the-row (LL.vals T.the-type T′.the-laws) (LL.tells T.the-type T′.the-laws) MOST-BOUNDS,
-        (
-          uint-tells w64,
-          (
-            uint-tells w64,
-            (
-              mut-slice-tells (named 0) (κs .0) i32,
-              (uint-tells w64, tt),
-            ),
-          ),
-        ),
-      ))
+      (λ κs.
+      let list = array-tells T.the-row (LL.vals T.the-type T′.the-laws) (LL.tells T.the-type T′.the-laws) MOST-BOUNDS in
+      let word = uint-tells w64 in
+      let matrix = mut-slice-tells (named 0) (κs .0) i32 in
+      (list, (word, (word, (matrix, (word, tt))))))
       (λ κs qs bounds a g are. needs 𝓤 _ _ (walk (κs .0) (qs .0) (a .0) _ (a .1 .0) (a .1 .1 .0) (a .1 .1 .1 .0) (a .1 .1 .1 .1 .0)
       (are .0) (are .1 .0 .1) (are .1 .1 .0 .1) (are .1 .1 .1 .1 .0 .1) 𝓣 known (are .1 .1 .1 .0 .0 .1)))
 
@@ -231,18 +211,10 @@ unfolding code.routine
 try-all-spec 𝓤 H 𝓜 𝓖 𝓡 =
     let A = 𝓖 .A in
     let W = givenOf 𝓤 H 𝓜 𝓖 in
-    by-walk 𝓤 H 𝓜 𝓖 𝓡 try-all.ended stayed (try-all.clauses 𝓤 H A (𝓜 .mem) (𝓡 .run)) code.env #try-all code.function (code.unfolded 𝓤 H 𝓜 𝓡) (
-      goes-none 𝓤 H A W 1 (λ _. Entries) yes (λ κs x f. refl),
-      (
-        goes-none 𝓤 H A W 1 (λ _. usize) yes (λ κs x f. refl),
-        (
-          goes-none 𝓤 H A W 1 (λ _. usize) yes (λ κs x f. refl),
-          (
-            goes-gave-slice 𝓤 H A W 1 0 tt (plain (λ _. i32)),
-            (goes-none 𝓤 H A W 1 (λ _. usize) yes (λ κs x f. refl), tt),
-          ),
-        ),
-      ),
-    )
+    let list = goes-none 𝓤 H A W 1 (λ _. Entries) yes (λ κs x f. refl) in
+    let word = goes-none 𝓤 H A W 1 (λ _. usize) yes (λ κs x f. refl) in
+    let matrix = goes-gave-slice 𝓤 H A W 1 0 tt (plain (λ _. i32)) in
+    by-walk 𝓤 H 𝓜 𝓖 𝓡 try-all.ended stayed (try-all.clauses 𝓤 H A (𝓜 .mem) (𝓡 .run)) code.env #try-all code.function (code.unfolded 𝓤 H 𝓜 𝓡)
+    (list, (word, (word, (matrix, (word, tt)))))
     #try-listed try-listed-def.routine code.calls-bounds·try-listed (TryListed 𝓤 H A W (𝓜 .mem) (𝓡 .run)) (try-listed-thm.met 𝓤 H 𝓜 𝓖 𝓡)
     (try-all-walks 𝓤 H A W (𝓜 .mem) (𝓡 .run))

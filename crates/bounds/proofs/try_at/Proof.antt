@@ -39,14 +39,14 @@ use denote.Triple.Spec.{tripleOf}
 use denote.Triple.Statement.{Contract, Triple}
 use denote.Triple.Call.{calls-at}
 use denote.Triple.Clauses.{lasts}
-use denote.Triple.Walked.{says, needs, Stays, stay-none-slice, stay-none, gave-slice, walkOf, ends-at, Walks, walked}
+use denote.Triple.Walked.{says, needs, Stays, stay-none-slice, gave-slice, walkOf, ends-at, Walks, walked}
 use denote.Triple.Walked.{goes-none-slice, goes-none, goes-gave-slice}
 use denote.Exit.{yes}
 use Rattle.chain.specs.declared.Bound.{Bound as Entry}
 use Rattle.chain.specs.Clash.{boundAt}
 use Rattle.chain.proofs.Bound as T
 use Rattle.chain.proofs.ByHand.{word-typed, slice-typed, bound-typed, held, sets, dead, skip, with-word, with-bound}
-use Rattle.chain.proofs.ByHand.{ListOf, elem, mach, bound-out, bound-back, answered, by-walk}
+use Rattle.chain.proofs.ByHand.{ListOf, elem, mach, bound-out, bound-back, answered, by-walk, stay-word}
 use Rattle.bounds.specs.Tried.{AddingOf, AddedOf}
 use Rattle.bounds.proofs.try_bound as try-bound
 use Rattle.bounds.proofs.try_bound.Symbol as try-bound-def
@@ -59,16 +59,7 @@ use Rattle.bounds.proofs.try_at.Code as code
 
 -- what is had of each parameter at exit
 abbrev stayed : Stays (try-at.ended .signature .params) (try-at.ended .kept)
-stayed = (
-  stay-none-slice (0 ∷ []) tt (plain (λ _. T.the-row)) yes,
-  (
-    stay-none (λ _. usize) yes,
-    (
-      gave-slice (1 ∷ []) tt (plain (λ _. i32)),
-      (stay-none (λ _. usize) yes, tt),
-    ),
-  ),
-)
+stayed = (stay-none-slice (0 ∷ []) tt (plain (λ _. T.the-row)) yes, (stay-word, (gave-slice (1 ∷ []) tt (plain (λ _. i32)), (stay-word, tt))))
 
 module _ {M : Type 1} (𝓤 : URA M) (H : Heap 𝓤) (A : Atoms 𝓤) (W : Given 𝓤 H A) (mem : Memory → SProp 𝓤) (run : Routine → Fun 𝓤) where
   -- the contract that the proof cites
@@ -186,16 +177,11 @@ module _ {M : Type 1} (𝓤 : URA M) (H : Heap 𝓤) (A : Atoms 𝓤) (W : Given
       → Walks 𝓤 H A try-at.ended stayed (WpFn 𝓤 H (𝓣 .C) (𝓣 .Λ) code.function) (try-at.clauses 𝓤 H A mem run)
   try-at-walks 𝓣 known = walked 𝓤 H A try-at.ended stayed (try-at.clauses 𝓤 H A mem run) (WpFn 𝓤 H (𝓣 .C) (𝓣 .Λ) code.function)
       (λ κs. (slice-vals, (uint-vals w64, (slice-vals, (uint-vals w64, tt)))))
-      (λ κs. (
-        shr-slice-tells (named 0) (κs .0) T.the-row,
-        (
-          uint-tells w64,
-          (
-            mut-slice-tells (named 1) (κs .1 .0) i32,
-            (uint-tells w64, tt),
-          ),
-        ),
-      ))
+      (λ κs.
+      let list = shr-slice-tells (named 0) (κs .0) T.the-row in
+      let word = uint-tells w64 in
+      let matrix = mut-slice-tells (named 1) (κs .1 .0) i32 in
+      (list, (word, (matrix, (word, tt)))))
       (λ κs qs bounds a g are. needs 𝓤 _ _ (walk (κs .0) (κs .1 .0) (qs .0) (qs .1 .0) (a .0) (a .1 .0) (a .1 .1 .0) (a .1 .1 .1 .0)
       (are .1 .0 .1) (are .1 .1 .1 .0 .1) 𝓣 known (are .0 .0 .1) (are .1 .1 .0 .0 .1)))
 
@@ -204,15 +190,10 @@ unfolding code.routine
 try-at-spec 𝓤 H 𝓜 𝓖 𝓡 =
     let A = 𝓖 .A in
     let W = givenOf 𝓤 H 𝓜 𝓖 in
-    by-walk 𝓤 H 𝓜 𝓖 𝓡 try-at.ended stayed (try-at.clauses 𝓤 H A (𝓜 .mem) (𝓡 .run)) code.env #try-at code.function (code.unfolded 𝓤 H 𝓜 𝓡) (
-      goes-none-slice 𝓤 H A W 2 (0 ∷ []) tt (plain (λ _. T.the-row)) yes,
-      (
-        goes-none 𝓤 H A W 2 (λ _. usize) yes (λ κs x f. refl),
-        (
-          goes-gave-slice 𝓤 H A W 2 1 tt (plain (λ _. i32)),
-          (goes-none 𝓤 H A W 2 (λ _. usize) yes (λ κs x f. refl), tt),
-        ),
-      ),
-    )
+    let list = goes-none-slice 𝓤 H A W 2 (0 ∷ []) tt (plain (λ _. T.the-row)) yes in
+    let word = goes-none 𝓤 H A W 2 (λ _. usize) yes (λ κs x f. refl) in
+    let matrix = goes-gave-slice 𝓤 H A W 2 1 tt (plain (λ _. i32)) in
+    by-walk 𝓤 H 𝓜 𝓖 𝓡 try-at.ended stayed (try-at.clauses 𝓤 H A (𝓜 .mem) (𝓡 .run)) code.env #try-at code.function (code.unfolded 𝓤 H 𝓜 𝓡)
+    (list, (word, (matrix, (word, tt))))
     #try-bound try-bound-def.routine code.calls-bounds·try-bound (TryBound 𝓤 H A W (𝓜 .mem) (𝓡 .run)) (try-bound-thm.met 𝓤 H 𝓜 𝓖 𝓡)
     (try-at-walks 𝓤 H A W (𝓜 .mem) (𝓡 .run))

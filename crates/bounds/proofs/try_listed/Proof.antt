@@ -42,14 +42,14 @@ use denote.Triple.Spec.{tripleOf}
 use denote.Triple.Statement.{Contract, Triple}
 use denote.Triple.Call.{calls-at}
 use denote.Triple.Clauses.{lasts}
-use denote.Triple.Walked.{says, needs, Stays, stay-none-slice, stay-none, stay-slice, walkOf, ends-at, Walks, walked}
+use denote.Triple.Walked.{says, needs, Stays, stay-none-slice, stay-slice, walkOf, ends-at, Walks, walked}
 use denote.Triple.Walked.{goes-none-slice, goes-none, goes-slice}
 use denote.Exit.{yes}
 use Rattle.chain.specs.declared.Bound.{Bound as Entry}
 use Rattle.chain.specs.Clash.{boundAt}
 use Rattle.chain.proofs.Bound as T
 use Rattle.chain.proofs.Lent.{at-list}
-use Rattle.chain.proofs.ByHand.{word-typed, slice-typed, held, sets, from-to, dead, skip, with-word, ListOf, lends-on, comes-on, answered, by-walk}
+use Rattle.chain.proofs.ByHand.{word-typed, slice-typed, held, sets, from-to, dead, skip, with-word, ListOf, lends-on, comes-on, answered, by-walk, stay-word}
 use Rattle.chain.proofs.Searched.{searched, taken, left}
 use Rattle.bounds.specs.Tried.{AddedOf, Trying, Tried}
 use Rattle.bounds.proofs.Tries.{tried-none, adding-next, tried-more, tried-clash, tried-all}
@@ -65,19 +65,7 @@ use Rattle.bounds.proofs.try_listed.Code.Mir as body
 
 -- what is had of each parameter at exit
 abbrev stayed : Stays (try-listed.ended .signature .params) (try-listed.ended .kept)
-stayed = (
-  stay-none-slice (0 ∷ []) tt (plain (λ _. T.the-row)) yes,
-  (
-    stay-none (λ _. usize) yes,
-    (
-      stay-none (λ _. usize) yes,
-      (
-        stay-slice (1 ∷ []) tt (plain (λ _. i32)),
-        (stay-none (λ _. usize) yes, tt),
-      ),
-    ),
-  ),
-)
+stayed = (stay-none-slice (0 ∷ []) tt (plain (λ _. T.the-row)) yes, (stay-word, (stay-word, (stay-slice (1 ∷ []) tt (plain (λ _. i32)), (stay-word, tt)))))
 
 -- the types of the locals
 abbrev word : Ty
@@ -341,19 +329,11 @@ module _ {M : Type 1} (𝓤 : URA M) (H : Heap 𝓤) (A : Atoms 𝓤) (W : Given
       → Walks 𝓤 H A try-listed.ended stayed (WpFn 𝓤 H (𝓣 .C) (𝓣 .Λ) code.function) (try-listed.clauses 𝓤 H A mem run)
   try-listed-walks 𝓣 known = walked 𝓤 H A try-listed.ended stayed (try-listed.clauses 𝓤 H A mem run) (WpFn 𝓤 H (𝓣 .C) (𝓣 .Λ) code.function)
       (λ κs. (slice-vals, (uint-vals w64, (uint-vals w64, (slice-vals, (uint-vals w64, tt))))))
-      (λ κs. (
-        shr-slice-tells (named 0) (κs .0) T.the-row,
-        (
-          uint-tells w64,
-          (
-            uint-tells w64,
-            (
-              mut-slice-tells (named 1) (κs .1 .0) i32,
-              (uint-tells w64, tt),
-            ),
-          ),
-        ),
-      ))
+      (λ κs.
+      let list = shr-slice-tells (named 0) (κs .0) T.the-row in
+      let word = uint-tells w64 in
+      let matrix = mut-slice-tells (named 1) (κs .1 .0) i32 in
+      (list, (word, (word, (matrix, (word, tt))))))
       (λ κs qs bounds a g are. needs 𝓤 _ _ (λ asks. walk (κs .0) (κs .1 .0) (qs .0) (qs .1 .0)
       (a .0) (a .1 .0) (a .1 .1 .0) (a .1 .1 .1 .0) (a .1 .1 .1 .1 .0)
       (are .1 .0 .1) (are .1 .1 .0 .1) (are .1 .1 .1 .1 .0 .1) 𝓣 known (are .1 .1 .1 .0 .0 .1) asks (are .0 .0 .1)))
@@ -363,18 +343,10 @@ unfolding code.routine
 try-listed-spec 𝓤 H 𝓜 𝓖 𝓡 =
     let A = 𝓖 .A in
     let W = givenOf 𝓤 H 𝓜 𝓖 in
-    by-walk 𝓤 H 𝓜 𝓖 𝓡 try-listed.ended stayed (try-listed.clauses 𝓤 H A (𝓜 .mem) (𝓡 .run)) code.env #try-listed code.function (code.unfolded 𝓤 H 𝓜 𝓡) (
-      goes-none-slice 𝓤 H A W 2 (0 ∷ []) tt (plain (λ _. T.the-row)) yes,
-      (
-        goes-none 𝓤 H A W 2 (λ _. usize) yes (λ κs x f. refl),
-        (
-          goes-none 𝓤 H A W 2 (λ _. usize) yes (λ κs x f. refl),
-          (
-            goes-slice 𝓤 H A W 2 1 tt (plain (λ _. i32)),
-            (goes-none 𝓤 H A W 2 (λ _. usize) yes (λ κs x f. refl), tt),
-          ),
-        ),
-      ),
-    )
+    let list = goes-none-slice 𝓤 H A W 2 (0 ∷ []) tt (plain (λ _. T.the-row)) yes in
+    let word = goes-none 𝓤 H A W 2 (λ _. usize) yes (λ κs x f. refl) in
+    let matrix = goes-slice 𝓤 H A W 2 1 tt (plain (λ _. i32)) in
+    by-walk 𝓤 H 𝓜 𝓖 𝓡 try-listed.ended stayed (try-listed.clauses 𝓤 H A (𝓜 .mem) (𝓡 .run)) code.env #try-listed code.function (code.unfolded 𝓤 H 𝓜 𝓡)
+    (list, (word, (word, (matrix, (word, tt)))))
     #try-at try-at-def.routine code.calls-bounds·try-at (TryAt 𝓤 H A W (𝓜 .mem) (𝓡 .run)) (try-at-thm.met 𝓤 H 𝓜 𝓖 𝓡)
     (try-listed-walks 𝓤 H A W (𝓜 .mem) (𝓡 .run))

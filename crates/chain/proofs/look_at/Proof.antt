@@ -39,7 +39,7 @@ use denote.Triple.Spec.{tripleOf}
 use denote.Triple.Statement.{Contract, Triple}
 use denote.Triple.Call.{calls-at}
 use denote.Triple.Clauses.{lasts}
-use denote.Triple.Walked.{says, needs, Stays, stay-none-slice, stay-none, gave-slice, walkOf, ends-at, Walks, walked}
+use denote.Triple.Walked.{says, needs, Stays, stay-none-slice, gave-slice, walkOf, ends-at, Walks, walked}
 use denote.Triple.Walked.{goes-none-slice, goes-none, goes-gave-slice}
 use denote.Exit.{yes}
 use Rattle.eventset.specs.declared.EventSet.{EventSet}
@@ -52,7 +52,7 @@ use Rattle.chain.specs.Marks.{NOTES, Looking, Look}
 use Rattle.chain.proofs.Bound as T
 use Rattle.chain.proofs.ByHand.{word-typed, slice-typed, bound-typed, set-typed, held, sets, dead, skip, with-word}
 use Rattle.chain.proofs.ByHand.{with-bound, with-set}
-use Rattle.chain.proofs.ByHand.{ListOf, elem, mach, bound-out, bound-back, answered, by-walk}
+use Rattle.chain.proofs.ByHand.{ListOf, elem, mach, bound-out, bound-back, answered, by-walk, stay-word, stay-set}
 use Rattle.chain.proofs.look as look′
 use Rattle.chain.proofs.look.Symbol as look-def
 use Rattle.chain.proofs.look.Symbol.{name as #chain·look}
@@ -66,19 +66,7 @@ use Rattle.chain.proofs.look_at.Code as code
 abbrev stayed : Stays (look-at.ended .signature .params) (look-at.ended .kept)
 stayed = (
   stay-none-slice (0 ∷ []) tt (plain (λ _. T.the-row)) yes,
-  (
-    stay-none (λ _. usize) yes,
-    (
-      stay-none-slice (1 ∷ []) tt (plain (λ _. i32)) yes,
-      (
-        stay-none (λ _. usize) yes,
-        (
-          stay-none (λ _. S.the-row) yes,
-          (gave-slice (2 ∷ []) tt (plain (λ _. u16)), tt),
-        ),
-      ),
-    ),
-  ),
+  (stay-word, (stay-none-slice (1 ∷ []) tt (plain (λ _. i32)) yes, (stay-word, (stay-set, (gave-slice (2 ∷ []) tt (plain (λ _. u16)), tt))))),
 )
 
 module _ {M : Type 1} (𝓤 : URA M) (H : Heap 𝓤) (A : Atoms 𝓤) (W : Given 𝓤 H A) (mem : Memory → SProp 𝓤) (run : Routine → Fun 𝓤) where
@@ -227,22 +215,13 @@ module _ {M : Type 1} (𝓤 : URA M) (H : Heap 𝓤) (A : Atoms 𝓤) (W : Given
       → Walks 𝓤 H A look-at.ended stayed (WpFn 𝓤 H (𝓣 .C) (𝓣 .Λ) code.function) (look-at.clauses 𝓤 H A mem run)
   look-at-walks 𝓣 known = walked 𝓤 H A look-at.ended stayed (look-at.clauses 𝓤 H A mem run) (WpFn 𝓤 H (𝓣 .C) (𝓣 .Λ) code.function)
       (λ κs. (slice-vals, (uint-vals w64, (slice-vals, (uint-vals w64, (LL.vals S.the-type S′.the-laws, (slice-vals, tt)))))))
-      (λ κs. (
-        shr-slice-tells (named 0) (κs .0) T.the-row,
-        (
-          uint-tells w64,
-          (
-            shr-slice-tells (named 1) (κs .1 .0) i32,
-            (
-              uint-tells w64,
-              (
-                LL.tells S.the-type S′.the-laws,
-                (mut-slice-tells (named 2) (κs .1 .1 .0) u16, tt),
-              ),
-            ),
-          ),
-        ),
-      ))
+      (λ κs.
+      let list = shr-slice-tells (named 0) (κs .0) T.the-row in
+      let word = uint-tells w64 in
+      let far = shr-slice-tells (named 1) (κs .1 .0) i32 in
+      let set = LL.tells S.the-type S′.the-laws in
+      let notes = mut-slice-tells (named 2) (κs .1 .1 .0) u16 in
+      (list, (word, (far, (word, (set, (notes, tt)))))))
       (λ κs qs bounds a g are. needs 𝓤 _ _ (walk (κs .0) (κs .1 .0) (κs .1 .1 .0) (qs .0) (qs .1 .0) (qs .1 .1 .0)
       (a .0) (a .1 .0) (a .1 .1 .0) (a .1 .1 .1 .0) (a .1 .1 .1 .1 .0) (a .1 .1 .1 .1 .1 .0)
       (are .1 .0 .1) (are .1 .1 .1 .0 .1) (are .1 .1 .1 .1 .0) 𝓣 known (are .0 .0 .1) (are .1 .1 .0 .0 .1) (are .1 .1 .1 .1 .1 .0 .0 .1)))
@@ -252,21 +231,12 @@ unfolding code.routine
 look-at-spec 𝓤 H 𝓜 𝓖 𝓡 =
     let A = 𝓖 .A in
     let W = givenOf 𝓤 H 𝓜 𝓖 in
-    by-walk 𝓤 H 𝓜 𝓖 𝓡 look-at.ended stayed (look-at.clauses 𝓤 H A (𝓜 .mem) (𝓡 .run)) code.env #chain·look-at code.function (code.unfolded 𝓤 H 𝓜 𝓡) (
-      goes-none-slice 𝓤 H A W 3 (0 ∷ []) tt (plain (λ _. T.the-row)) yes,
-      (
-        goes-none 𝓤 H A W 3 (λ _. usize) yes (λ κs x f. refl),
-        (
-          goes-none-slice 𝓤 H A W 3 (1 ∷ []) tt (plain (λ _. i32)) yes,
-          (
-            goes-none 𝓤 H A W 3 (λ _. usize) yes (λ κs x f. refl),
-            (
-              goes-none 𝓤 H A W 3 (λ _. S.the-row) yes (λ κs x f. refl),
-              (goes-gave-slice 𝓤 H A W 3 2 tt (plain (λ _. u16)), tt),
-            ),
-          ),
-        ),
-      ),
-    )
+    let list = goes-none-slice 𝓤 H A W 3 (0 ∷ []) tt (plain (λ _. T.the-row)) yes in
+    let word = goes-none 𝓤 H A W 3 (λ _. usize) yes (λ κs x f. refl) in
+    let far = goes-none-slice 𝓤 H A W 3 (1 ∷ []) tt (plain (λ _. i32)) yes in
+    let set = goes-none 𝓤 H A W 3 (λ _. S.the-row) yes (λ κs x f. refl) in
+    let notes = goes-gave-slice 𝓤 H A W 3 2 tt (plain (λ _. u16)) in
+    by-walk 𝓤 H 𝓜 𝓖 𝓡 look-at.ended stayed (look-at.clauses 𝓤 H A (𝓜 .mem) (𝓡 .run)) code.env #chain·look-at code.function (code.unfolded 𝓤 H 𝓜 𝓡)
+    (list, (word, (far, (word, (set, (notes, tt))))))
     #chain·look look-def.routine code.calls-chain·look (Looks 𝓤 H A W (𝓜 .mem) (𝓡 .run)) (look-thm.met 𝓤 H 𝓜 𝓖 𝓡)
     (look-at-walks 𝓤 H A W (𝓜 .mem) (𝓡 .run))

@@ -43,7 +43,7 @@ use denote.Triple.Spec.{tripleOf}
 use denote.Triple.Statement.{Contract, Triple}
 use denote.Triple.Call.{calls-at}
 use denote.Triple.Clauses.{lasts}
-use denote.Triple.Walked.{says, needs, Stays, stay-none-slice, stay-none, stay-slice, walkOf, ends-at, Walks, walked}
+use denote.Triple.Walked.{says, needs, Stays, stay-none-slice, stay-slice, walkOf, ends-at, Walks, walked}
 use denote.Triple.Walked.{goes-none-slice, goes-none, goes-slice}
 use denote.Exit.{yes}
 use Rattle.eventset.specs.declared.EventSet.{EventSet}
@@ -56,7 +56,7 @@ use Rattle.chain.specs.Marks.{Looking, Look, Scanning, Scanned}
 use Rattle.chain.proofs.Bound as T
 use Rattle.chain.proofs.Lent.{at-list}
 use Rattle.chain.proofs.ByHand.{word-typed, slice-typed, set-typed, held, sets, from-to, dead, skip, with-word, with-set}
-use Rattle.chain.proofs.ByHand.{ListOf, lends-on, comes-on, answered, by-walk}
+use Rattle.chain.proofs.ByHand.{ListOf, lends-on, comes-on, answered, by-walk, stay-word, stay-set}
 use Rattle.chain.proofs.Searched.{searched, taken, left}
 use Rattle.chain.proofs.Marks.{Under, under-start, under-step, under-end}
 use Rattle.chain.proofs.look_at as look-at
@@ -73,19 +73,7 @@ use Rattle.chain.proofs.scan.Code.Mir as body
 abbrev stayed : Stays (scan.ended .signature .params) (scan.ended .kept)
 stayed = (
   stay-none-slice (0 ∷ []) tt (plain (λ _. T.the-row)) yes,
-  (
-    stay-none (λ _. usize) yes,
-    (
-      stay-none-slice (1 ∷ []) tt (plain (λ _. i32)) yes,
-      (
-        stay-none (λ _. usize) yes,
-        (
-          stay-none (λ _. S.the-row) yes,
-          (stay-slice (2 ∷ []) tt (plain (λ _. u16)), tt),
-        ),
-      ),
-    ),
-  ),
+  (stay-word, (stay-none-slice (1 ∷ []) tt (plain (λ _. i32)) yes, (stay-word, (stay-set, (stay-slice (2 ∷ []) tt (plain (λ _. u16)), tt))))),
 )
 
 -- the types of the locals
@@ -369,22 +357,13 @@ module _ {M : Type 1} (𝓤 : URA M) (H : Heap 𝓤) (A : Atoms 𝓤) (W : Given
       → Walks 𝓤 H A scan.ended stayed (WpFn 𝓤 H (𝓣 .C) (𝓣 .Λ) code.function) (scan.clauses 𝓤 H A mem run)
   scan-walks 𝓣 known = walked 𝓤 H A scan.ended stayed (scan.clauses 𝓤 H A mem run) (WpFn 𝓤 H (𝓣 .C) (𝓣 .Λ) code.function)
       (λ κs. (slice-vals, (uint-vals w64, (slice-vals, (uint-vals w64, (LL.vals S.the-type S′.the-laws, (slice-vals, tt)))))))
-      (λ κs. (
-        shr-slice-tells (named 0) (κs .0) T.the-row,
-        (
-          uint-tells w64,
-          (
-            shr-slice-tells (named 1) (κs .1 .0) i32,
-            (
-              uint-tells w64,
-              (
-                LL.tells S.the-type S′.the-laws,
-                (mut-slice-tells (named 2) (κs .1 .1 .0) u16, tt),
-              ),
-            ),
-          ),
-        ),
-      ))
+      (λ κs.
+      let list = shr-slice-tells (named 0) (κs .0) T.the-row in
+      let word = uint-tells w64 in
+      let far = shr-slice-tells (named 1) (κs .1 .0) i32 in
+      let set = LL.tells S.the-type S′.the-laws in
+      let notes = mut-slice-tells (named 2) (κs .1 .1 .0) u16 in
+      (list, (word, (far, (word, (set, (notes, tt)))))))
       (λ κs qs bounds a g are. needs 𝓤 _ _ (λ asks. walk (κs .0) (κs .1 .0) (κs .1 .1 .0) (qs .0) (qs .1 .0) (qs .1 .1 .0)
       (a .0) (a .1 .0) (a .1 .1 .0) (a .1 .1 .1 .0) (a .1 .1 .1 .1 .0) (a .1 .1 .1 .1 .1 .0)
       (are .1 .0 .1) (are .1 .1 .1 .0 .1) (are .1 .1 .1 .1 .0) 𝓣 known (are .1 .1 .1 .1 .1 .0 .0 .1) asks (are .0 .0 .1) (are .1 .1 .0 .0 .1)))
@@ -394,21 +373,12 @@ unfolding code.routine
 scan-spec 𝓤 H 𝓜 𝓖 𝓡 =
     let A = 𝓖 .A in
     let W = givenOf 𝓤 H 𝓜 𝓖 in
-    by-walk 𝓤 H 𝓜 𝓖 𝓡 scan.ended stayed (scan.clauses 𝓤 H A (𝓜 .mem) (𝓡 .run)) code.env #chain·scan code.function (code.unfolded 𝓤 H 𝓜 𝓡) (
-      goes-none-slice 𝓤 H A W 3 (0 ∷ []) tt (plain (λ _. T.the-row)) yes,
-      (
-        goes-none 𝓤 H A W 3 (λ _. usize) yes (λ κs x f. refl),
-        (
-          goes-none-slice 𝓤 H A W 3 (1 ∷ []) tt (plain (λ _. i32)) yes,
-          (
-            goes-none 𝓤 H A W 3 (λ _. usize) yes (λ κs x f. refl),
-            (
-              goes-none 𝓤 H A W 3 (λ _. S.the-row) yes (λ κs x f. refl),
-              (goes-slice 𝓤 H A W 3 2 tt (plain (λ _. u16)), tt),
-            ),
-          ),
-        ),
-      ),
-    )
+    let list = goes-none-slice 𝓤 H A W 3 (0 ∷ []) tt (plain (λ _. T.the-row)) yes in
+    let word = goes-none 𝓤 H A W 3 (λ _. usize) yes (λ κs x f. refl) in
+    let far = goes-none-slice 𝓤 H A W 3 (1 ∷ []) tt (plain (λ _. i32)) yes in
+    let set = goes-none 𝓤 H A W 3 (λ _. S.the-row) yes (λ κs x f. refl) in
+    let notes = goes-slice 𝓤 H A W 3 2 tt (plain (λ _. u16)) in
+    by-walk 𝓤 H 𝓜 𝓖 𝓡 scan.ended stayed (scan.clauses 𝓤 H A (𝓜 .mem) (𝓡 .run)) code.env #chain·scan code.function (code.unfolded 𝓤 H 𝓜 𝓡)
+    (list, (word, (far, (word, (set, (notes, tt))))))
     #chain·look-at look-at-def.routine code.calls-chain·look-at (Looks 𝓤 H A W (𝓜 .mem) (𝓡 .run)) (look-at-thm.met 𝓤 H 𝓜 𝓖 𝓡)
     (scan-walks 𝓤 H A W (𝓜 .mem) (𝓡 .run))

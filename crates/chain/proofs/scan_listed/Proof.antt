@@ -39,7 +39,7 @@ use denote.Triple.Spec.{tripleOf}
 use denote.Triple.Statement.{Contract, Triple}
 use denote.Triple.Call.{calls-at}
 use denote.Triple.Clauses.{lasts}
-use denote.Triple.Walked.{says, needs, Stays, stay-none-slice, stay-none, gave-slice, walkOf, ends-at, Walks, walked}
+use denote.Triple.Walked.{says, needs, Stays, stay-none-slice, gave-slice, walkOf, ends-at, Walks, walked}
 use denote.Triple.Walked.{goes-none-slice, goes-none, goes-gave-slice}
 use denote.Exit.{yes}
 use Rattle.eventset.specs.declared.EventSet.{EventSet}
@@ -52,7 +52,7 @@ use Rattle.chain.specs.Marks.{Scanning, Scanned}
 use Rattle.chain.proofs.Bound as T
 use Rattle.chain.proofs.Bound.Laws as T′
 use Rattle.chain.proofs.ByHand.{word-typed, slice-typed, set-typed, entries-typed, held, sets, dead, skip, with-word, with-set, with-entries}
-use Rattle.chain.proofs.ByHand.{Entries, in-local, lends-list, list-back, answered, by-walk}
+use Rattle.chain.proofs.ByHand.{Entries, in-local, lends-list, list-back, answered, by-walk, stay-word, stay-set, stay-entries}
 use Rattle.chain.proofs.scan as scan
 use Rattle.chain.proofs.scan.Symbol as scan-def
 use Rattle.chain.proofs.scan.Symbol.{name as #chain·scan}
@@ -65,20 +65,8 @@ use Rattle.chain.proofs.scan_listed.Code as code
 -- what is had of each parameter at exit
 abbrev stayed : Stays (listed.ended .signature .params) (listed.ended .kept)
 stayed = (
-  stay-none (λ _. Entries) yes,
-  (
-    stay-none (λ _. usize) yes,
-    (
-      stay-none-slice (0 ∷ []) tt (plain (λ _. i32)) yes,
-      (
-        stay-none (λ _. usize) yes,
-        (
-          stay-none (λ _. S.the-row) yes,
-          (gave-slice (1 ∷ []) tt (plain (λ _. u16)), tt),
-        ),
-      ),
-    ),
-  ),
+  stay-entries,
+  (stay-word, (stay-none-slice (0 ∷ []) tt (plain (λ _. i32)) yes, (stay-word, (stay-set, (gave-slice (1 ∷ []) tt (plain (λ _. u16)), tt))))),
 )
 
 module _ {M : Type 1} (𝓤 : URA M) (H : Heap 𝓤) (A : Atoms 𝓤) (W : Given 𝓤 H A) (mem : Memory → SProp 𝓤) (run : Routine → Fun 𝓤) where
@@ -233,22 +221,13 @@ module _ {M : Type 1} (𝓤 : URA M) (H : Heap 𝓤) (A : Atoms 𝓤) (W : Given
         array-vals (LL.vals T.the-type T′.the-laws),
         (uint-vals w64, (slice-vals, (uint-vals w64, (LL.vals S.the-type S′.the-laws, (slice-vals, tt))))),
       ))
-      (λ κs. (
-        array-tells T.the-row (LL.vals T.the-type T′.the-laws) (LL.tells T.the-type T′.the-laws) MOST-BOUNDS,
-        (
-          uint-tells w64,
-          (
-            shr-slice-tells (named 0) (κs .0) i32,
-            (
-              uint-tells w64,
-              (
-                LL.tells S.the-type S′.the-laws,
-                (mut-slice-tells (named 1) (κs .1 .0) u16, tt),
-              ),
-            ),
-          ),
-        ),
-      ))
+      (λ κs.
+      let list = array-tells T.the-row (LL.vals T.the-type T′.the-laws) (LL.tells T.the-type T′.the-laws) MOST-BOUNDS in
+      let word = uint-tells w64 in
+      let far = shr-slice-tells (named 0) (κs .0) i32 in
+      let set = LL.tells S.the-type S′.the-laws in
+      let notes = mut-slice-tells (named 1) (κs .1 .0) u16 in
+      (list, (word, (far, (word, (set, (notes, tt)))))))
       (λ κs qs bounds a g are. needs 𝓤 _ _ (walk (κs .0) (κs .1 .0) (qs .0) (qs .1 .0)
       (a .0) _ (a .1 .0) (a .1 .1 .0) (a .1 .1 .1 .0) (a .1 .1 .1 .1 .0) (a .1 .1 .1 .1 .1 .0)
       (are .0) (are .1 .0 .1) (are .1 .1 .1 .0 .1) (are .1 .1 .1 .1 .0) 𝓣 known (are .1 .1 .0 .0 .1) (are .1 .1 .1 .1 .1 .0 .0 .1)))
@@ -258,21 +237,12 @@ unfolding code.routine
 scan-listed-spec 𝓤 H 𝓜 𝓖 𝓡 =
     let A = 𝓖 .A in
     let W = givenOf 𝓤 H 𝓜 𝓖 in
-    by-walk 𝓤 H 𝓜 𝓖 𝓡 listed.ended stayed (listed.clauses 𝓤 H A (𝓜 .mem) (𝓡 .run)) code.env #chain·scan-listed code.function (code.unfolded 𝓤 H 𝓜 𝓡) (
-      goes-none 𝓤 H A W 2 (λ _. Entries) yes (λ κs x f. refl),
-      (
-        goes-none 𝓤 H A W 2 (λ _. usize) yes (λ κs x f. refl),
-        (
-          goes-none-slice 𝓤 H A W 2 (0 ∷ []) tt (plain (λ _. i32)) yes,
-          (
-            goes-none 𝓤 H A W 2 (λ _. usize) yes (λ κs x f. refl),
-            (
-              goes-none 𝓤 H A W 2 (λ _. S.the-row) yes (λ κs x f. refl),
-              (goes-gave-slice 𝓤 H A W 2 1 tt (plain (λ _. u16)), tt),
-            ),
-          ),
-        ),
-      ),
-    )
+    let list = goes-none 𝓤 H A W 2 (λ _. Entries) yes (λ κs x f. refl) in
+    let word = goes-none 𝓤 H A W 2 (λ _. usize) yes (λ κs x f. refl) in
+    let far = goes-none-slice 𝓤 H A W 2 (0 ∷ []) tt (plain (λ _. i32)) yes in
+    let set = goes-none 𝓤 H A W 2 (λ _. S.the-row) yes (λ κs x f. refl) in
+    let notes = goes-gave-slice 𝓤 H A W 2 1 tt (plain (λ _. u16)) in
+    by-walk 𝓤 H 𝓜 𝓖 𝓡 listed.ended stayed (listed.clauses 𝓤 H A (𝓜 .mem) (𝓡 .run)) code.env #chain·scan-listed code.function (code.unfolded 𝓤 H 𝓜 𝓡)
+    (list, (word, (far, (word, (set, (notes, tt))))))
     #chain·scan scan-def.routine code.calls-chain·scan (Scans 𝓤 H A W (𝓜 .mem) (𝓡 .run)) (scan-thm.met 𝓤 H 𝓜 𝓖 𝓡)
     (listed-walks 𝓤 H A W (𝓜 .mem) (𝓡 .run))
