@@ -16,11 +16,11 @@ use Rattle.meaning.specs.Bounds.{Bound, upper, lower, horizonUpper, horizonLowe
 use Rattle.meaning.specs.Faultless.{GoodRecord}
 use Rattle.plan.specs.declared.Plan.{Plan}
 use Rattle.plan.specs.declared.Record.{Record as Row}
-use Rattle.plan.specs.Held.{rowOf, blank}
+use Rattle.plan.specs.Held.{rowOf, blank, Planned}
 use Rattle.plan.proofs.Use.{held-row}
 use Rattle.chain.specs.declared.Bound.{Bound as Entry}
 use Rattle.chain.specs.Clash.{MOST-BOUNDS, boundOf, none, listed}
-use Rattle.bounds.specs.Listed.{Planned, Listed}
+use Rattle.bounds.specs.Listed.{Listed}
 use Rattle.bounds.specs.Entries.{upperEntry, lowerEntry, Front}
 
 -- ---- one bound more, and two
