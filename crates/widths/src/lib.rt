@@ -68,6 +68,13 @@ pub fn from_i32(x: i32) -> usize
     x as usize
 }
 
+pub fn from_i64(x: i64) -> u64
+    requires { ⌜ T (nonNeg x) ⌝ }
+    ensures { λ r. ⌜ r ≡ natAbs x ⌝ }
+{
+    x as u64
+}
+
 // A signed number with more room.
 pub fn widen(x: i32) -> i64
     ensures { λ r. ⌜ r ≡ x ⌝ }
