@@ -10,7 +10,7 @@ use lib.Dec.{leb}
 use lib.ListN.{length, take, length-map}
 use lib.Seq.{length-take-le}
 use lib.IntN.{ℤ, pos}
-use Rattle.meaning.specs.Plan.{Plan, MOST-EVENTS, MOST-RECORDS, MOST-BYTES, wishes}
+use Rattle.meaning.specs.Plan.{Plan, MOST-EVENTS, MOST-BYTES, wishes}
 use Rattle.meaning.specs.Reading.{Reading, plan, refused, read}
 use Rattle.meaning.specs.Bounds.{Chain}
 use Rattle.meaning.specs.Known.{bytes}

@@ -1,5 +1,5 @@
 -- The lines that are left to print from a place on: the first of them, and the others behind it.
-use mathlib.Core.Path.{_≡_, refl, ap, _∙_}
+use mathlib.Core.Path.{_≡_, ap, _∙_}
 use mathlib.Core.Bool.{Bool, true, false, cond}
 use mathlib.Core.List.{List, [], _∷_, _++_}
 use Prim.Native.Nat.{ℕ, suc, _+_, _≤_, _<_}
@@ -70,12 +70,14 @@ module _ (ls : List ℕ) (m : ℕ) (l : m ≤ length ls) where
 -- record k of the plan is the next, with so many levels
 pub level-more : (ls : List ℕ) (m k w count : ℕ) (rs : List M.Record) → m ≤ length ls → k < length rs → Levelled (getD rs k nothing) →
     count ≡ length (levelsIn (getD rs k nothing)) → w + wishCount (drop k rs) ≡ m →
-    (levelLines k (drop k rs) (drop w (take m ls)) ≡ levelLine count k (getD ls w 0) ++ levelLines (k + 1) (drop (k + 1) rs) (drop (w + wishIn count) (take m ls)))
+    (levelLines k (drop k rs) (drop w (take m ls))
+    ≡ levelLine count k (getD ls w 0) ++ levelLines (k + 1) (drop (k + 1) rs) (drop (w + wishIn count) (take m ls)))
     × (w + wishIn count + wishCount (drop (k + 1) rs) ≡ m)
 level-more ls m k w count rs l h f c e =
     let next = drop-cons rs k nothing h in
     let e′ = rw next at e in
-    rw (add-one k, c, next) (first-more ls m l k w (drop (suc k) rs) (getD rs k nothing) f e′, first-count ls m l k w (drop (suc k) rs) (getD rs k nothing) f e′)
+    let others = drop (suc k) rs in
+    rw (add-one k, c, next) (first-more ls m l k w others (getD rs k nothing) f e′, first-count ls m l k w others (getD rs k nothing) f e′)
 
 -- ---- one line of levels
 

@@ -201,7 +201,8 @@ fn put_none(out: &mut [u8], h: Plan, chain: &[u16], steps: usize) -> usize
 fn put_solved(out: &mut [u8], h: Plan, w: usize, times: &[i64], levels: &[u8]) -> usize
     requires { ⌜ (AREA ≤ length (now out)) × ((p : M.Plan) × Timed p h w (now times) (now levels)) ⌝ }
     ensures { λ r. ⌜ ((p : M.Plan) → Timed p h w (now (times .entry)) (now (levels .entry))
-        → Put (now (out .entry)) (now (out .exit)) 0 r AREA (printed p (solved (take (p .events) (now (times .entry))) (take (wishes p) (now (levels .entry)))))) ⌝ }
+        → Put (now (out .entry)) (now (out .exit)) 0 r AREA
+        (printed p (solved (take (p .events) (now (times .entry))) (take (wishes p) (now (levels .entry)))))) ⌝ }
 {
     let n = h.events;
     let row = [widths::to_i64(n), widths::to_i64(w)];

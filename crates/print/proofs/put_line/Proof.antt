@@ -24,7 +24,9 @@ abbrev μ-loop : tie.MeasureT-loop
 μ-loop out₀ at word numbers next₀ i₀ t7 i-end out next i = length numbers - i
 
 abbrev start : tie.After-slice-known2 Inv-loop μ-loop → tie.Start Inv-loop μ-loop
-start c = c .before .before .before .before .before .before
+start c =
+    let put = c .before .before in
+    put .before .before .before .before
 
 -- there is room for the fields and the line feed
 room : (c : tie.After-slice-known2 Inv-loop μ-loop) →
@@ -95,8 +97,9 @@ put-word-requires-2 c κs =
 
 same-length : tie.Need-same-length Inv-loop μ-loop
 same-length c =
-    let at-loop = c .before .before .before .before .before .before in
-    omega (arith, c .before .before .put-word2 .kept .0, at-loop .loop .inv .2 .long, at-loop .before .before .before .put-word .kept .0)
+    let at-put = c .before .before in
+    let at-loop = at-put .before .before .before .before in
+    omega (arith, at-put .put-word2 .kept .0, at-loop .loop .inv .2 .long, at-loop .before .before .before .put-word .kept .0)
 
 returns : tie.Need-returns Inv-loop μ-loop
 returns c =

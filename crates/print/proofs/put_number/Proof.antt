@@ -11,7 +11,7 @@ use lib.ListN.{length}
 use mir.Facts.{toZ-ofZ}
 use Rattle.ticks.proofs.Ticks.{ticks}
 use Rattle.print.specs.Written.{decimal, decimalZ, Wrote}
-use Rattle.print.proofs.Decimals.{decimal-below, decimal-above, above-zero, whole-fits}
+use Rattle.print.proofs.Decimals.{decimal-below, decimal-above, above-zero}
 use Rattle.print.proofs.Writes.{wrote-then, wrote-as, wrote-long}
 use Rattle.print.proofs.put_number.Statement.{statement}
 use Rattle.print.proofs.put_number.Tie as tie

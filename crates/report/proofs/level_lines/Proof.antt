@@ -1,7 +1,7 @@
 -- `report::level_lines` meets its contract: the lines of the records passed are written, for every plan that memory holds; w wishes are among them.
 use mathlib.Core.Path.{_≡_, ap}
 use mathlib.Core.List.{List}
-use Prim.Native.Nat.{_+_, _*_, _-_, _≤_, _<_}
+use Prim.Native.Nat.{ℕ, _+_, _*_, _-_, _≤_, _<_}
 use native.Mathlib.Omega.{arith}
 use borrow.Author.Needs.{needs}
 use lib.ListN.{length, take, drop}
@@ -20,12 +20,16 @@ use Rattle.report.proofs.Rests.{wish-most, level-more}
 use Rattle.report.proofs.level_lines.Statement.{statement}
 use Rattle.report.proofs.level_lines.Tie as tie
 
+-- the lines of the records below k are written, and those from k on are left, whose first wish is number w
+abbrev Passed : (out₀ out : List ℕ) (at next : ℕ) (levels : List ℕ) (p : M.Plan) (w k : ℕ) → Type 0
+Passed out₀ out at next levels p w k =
+    Printing out₀ out at next (LINE-ROOM * k) (levelLines 0 (p .records) (take (wishes p) levels))
+    (levelLines k (drop k (p .records)) (drop w (take (wishes p) levels)))
+
 abbrev Inv-loop : tie.InvT-loop
 Inv-loop out₀ at levels h next₀ w₀ n k₀ out next w k =
-    (n ≡ h .count) × (k ≤ n) × (w ≤ k) × ((p : M.Plan) → Holds p h → WithoutFault p →
-    (w + wishCount (drop k (p .records)) ≡ wishes p)
-    × Printing out₀ out at next (LINE-ROOM * k) (levelLines 0 (p .records) (take (wishes p) levels))
-    (levelLines k (drop k (p .records)) (drop w (take (wishes p) levels))))
+    (n ≡ h .count) × (k ≤ n) × (w ≤ k)
+    × ((p : M.Plan) → Holds p h → WithoutFault p → (w + wishCount (drop k (p .records)) ≡ wishes p) × Passed out₀ out at next levels p w k)
 
 abbrev μ-loop : tie.MeasureT-loop
 μ-loop out₀ at levels h next₀ w₀ n k₀ out next w k = n - k
@@ -39,10 +43,8 @@ few s = let p = s .pre .2 in omega (arith, p .1 .count, p .2 .few)
 
 -- what is written, for the plan that there is
 written : (c : tie.At-loop Inv-loop μ-loop) →
-    let s = start c in let p = s .pre .2 .0 in
-    Printing (s .args .out .now) (c .loop .out) (s .args .at) (c .loop .next) (LINE-ROOM * c .loop .k)
-    (levelLines 0 (p .records) (take (wishes p) (s .args .levels .now)))
-    (levelLines (c .loop .k) (drop (c .loop .k) (p .records)) (drop (c .loop .w) (take (wishes p) (s .args .levels .now))))
+    let s = start c in
+    Passed (s .args .out .now) (c .loop .out) (s .args .at) (c .loop .next) (s .args .levels .now) (s .pre .2 .0) (c .loop .w) (c .loop .k)
 written c = let p = start c .pre .2 in c .loop .inv .3 (p .0) (p .1) (p .2) .1
 
 loop-holds : tie.Need-loop-holds Inv-loop μ-loop
@@ -92,11 +94,8 @@ loop-less c = omega arith
 further : (c : tie.After-wish-of Inv-loop μ-loop) →
     let line = c .before .before .before in
     let l = looped line in let s = start l in let k = l .loop .k + 1 in let w = l .loop .w + c .wish-of .result in
-    (p : M.Plan) → Holds p (s .args .t3) → WithoutFault p →
-    (w + wishCount (drop k (p .records)) ≡ wishes p)
-    × Printing (s .args .out .now) (line .level-line .last .0) (s .args .at) (line .level-line .result) (LINE-ROOM * k)
-    (levelLines 0 (p .records) (take (wishes p) (s .args .levels .now)))
-    (levelLines k (drop k (p .records)) (drop w (take (wishes p) (s .args .levels .now))))
+    (p : M.Plan) → Holds p (s .args .t3) → WithoutFault p → (w + wishCount (drop k (p .records)) ≡ wishes p)
+    × Passed (s .args .out .now) (line .level-line .last .0) (s .args .at) (line .level-line .result) (s .args .levels .now) p w k
 further c p q g =
     let line = c .before .before .before in
     let l = looped line in
@@ -126,7 +125,8 @@ returns c =
     let e : l .loop .k ≡ length (p .records) = omega (arith, q .count) in
     let f : length (p .records) ≡ h .count = omega (arith, q .count) in
     let done = rw e at (l .loop .inv .3 p q g .1) in
-    let none = ap (λ (rs : List M.Record). levelLines (length (p .records)) rs (drop (l .loop .w) (take (wishes p) (s .args .levels .now)))) (drop-length (p .records)) in
+    let left = drop (l .loop .w) (take (wishes p) (s .args .levels .now)) in
+    let none = ap (λ (rs : List M.Record). levelLines (length (p .records)) rs left) (drop-length (p .records)) in
     rw f at (printing-end done (omega (arith, s .pre .0)) none)
 
 pub level-lines-spec : {M : Type 1} → statement M

@@ -1,6 +1,7 @@
 -- `report::step_lines` meets its contract: the lines of the codes passed are written, for every plan that memory holds.
 use mathlib.Core.Path.{_≡_, ap}
-use Prim.Native.Nat.{_+_, _*_, _-_, _≤_}
+use mathlib.Core.List.{List}
+use Prim.Native.Nat.{ℕ, _+_, _*_, _-_, _≤_}
 use native.Mathlib.Omega.{arith}
 use borrow.Author.Needs.{needs}
 use lib.ListN.{take, drop}
@@ -15,10 +16,13 @@ use Rattle.report.proofs.Rests.{steps-more, left-none}
 use Rattle.report.proofs.step_lines.Statement.{statement}
 use Rattle.report.proofs.step_lines.Tie as tie
 
+-- the lines of the codes below i are written, and those from i on are left
+abbrev Passed : (out₀ out : List ℕ) (at next : ℕ) (codes : List ℕ) (p : M.Plan) (i : ℕ) → Type 0
+Passed out₀ out at next codes p i = Printing out₀ out at next (STEP-ROOM * i) (stepLines p codes) (stepLines p (drop i codes))
+
 abbrev Inv-loop : tie.InvT-loop
 Inv-loop out₀ at h chain steps next₀ i₀ out next i =
-    (i ≤ steps) × ((p : M.Plan) → Holds p h →
-    Printing out₀ out at next (STEP-ROOM * i) (stepLines p (take steps chain)) (stepLines p (drop i (take steps chain))))
+    (i ≤ steps) × ((p : M.Plan) → Holds p h → Passed out₀ out at next (take steps chain) p i)
 
 abbrev μ-loop : tie.MeasureT-loop
 μ-loop out₀ at h chain steps next₀ i₀ out next i = steps - i
@@ -28,8 +32,8 @@ start c = c .before .before .before
 
 -- what is written, for the plan that there is
 written : (c : tie.At-loop Inv-loop μ-loop) →
-    let s = start c in let codes = take (s .args .steps) (s .args .chain .now) in let p = s .pre .2 .0 in
-    Printing (s .args .out .now) (c .loop .out) (s .args .at) (c .loop .next) (STEP-ROOM * c .loop .i) (stepLines p codes) (stepLines p (drop (c .loop .i) codes))
+    let s = start c in
+    Passed (s .args .out .now) (c .loop .out) (s .args .at) (c .loop .next) (take (s .args .steps) (s .args .chain .now)) (s .pre .2 .0) (c .loop .i)
 written c = let p = start c .pre .2 in c .loop .inv .1 (p .0) (p .1)
 
 loop-holds : tie.Need-loop-holds Inv-loop μ-loop
@@ -66,8 +70,7 @@ further : (c : tie.After-slice-known2 Inv-loop μ-loop) →
     let put = c .before .before in
     let l = looped (put .before) in let s = start l in let codes = take (s .args .steps) (s .args .chain .now) in
     (p : M.Plan) → Holds p (s .args .h) →
-    Printing (s .args .out .now) (put .put-step .last .0) (s .args .at) (put .put-step .result) (STEP-ROOM * (l .loop .i + 1))
-    (stepLines p codes) (stepLines p (drop (l .loop .i + 1) codes))
+    Passed (s .args .out .now) (put .put-step .last .0) (s .args .at) (put .put-step .result) codes p (l .loop .i + 1)
 further c p q =
     let put = c .before .before in
     let l = looped (put .before) in
