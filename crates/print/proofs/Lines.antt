@@ -1,5 +1,5 @@
 -- Laws of lines: how many bytes one has at most, and the field that a walk over the numbers writes next.
-use mathlib.Core.Path.{_≡_, ap, _∙_}
+use mathlib.Core.Path.{_≡_, refl, ap, _∙_}
 use mathlib.Core.List.{List, [], _∷_, _++_, append-assoc}
 use Prim.Native.Nat.{ℕ, suc, _+_, _*_, _≤_, _<_}
 use native.Mathlib.Omega.{arith}
@@ -31,6 +31,7 @@ fields-most (z ∷ zs) h = omega (arith, number-most z (h .0), fields-most zs (h
 
 -- and so many its word, its numbers with their tabs, and the line feed
 pub line-most : (word : List ℕ) (zs : List ℤ) → AllFit zs → length (line word zs) ≤ length word + (21 * length zs + 1)
+unfolding line
 line-most word zs h =
     omega (arith, length-append word (fields zs ++ (LINE-FEED ∷ [])), length-append (fields zs) (LINE-FEED ∷ []), fields-most zs h)
 
@@ -38,6 +39,11 @@ line-most word zs h =
 
 abbrev pub restOf : List ℤ → ℕ → List ℕ
 restOf zs i = fields (drop i zs) ++ (LINE-FEED ∷ [])
+
+-- a line is its word and these, from the first number on
+pub line-rest : (word : List ℕ) (zs : List ℤ) → word ++ restOf zs 0 ≡ line word zs
+unfolding line
+line-rest word zs = refl
 
 pub rest-more : (zs : List ℤ) (i : ℕ) → i < length zs → restOf zs i ≡ (TAB ∷ decimalZ (getD zs i (pos 0))) ++ restOf zs (i + 1)
 rest-more zs i h =

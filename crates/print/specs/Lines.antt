@@ -11,5 +11,5 @@ fields [] = []
 fields (z ∷ zs) = (TAB ∷ decimalZ z) ++ fields zs
 
 -- a word, its numbers, and the line feed
-abbrev pub line : List ℕ → List ℤ → List ℕ
+unfoldable pub line : List ℕ → List ℤ → List ℕ
 line word zs = word ++ (fields zs ++ (LINE-FEED ∷ []))

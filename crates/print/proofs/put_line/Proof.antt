@@ -12,7 +12,7 @@ use Rattle.ticks.proofs.Ticks.{back}
 use Rattle.meaning.specs.Reading.{TAB, LINE-FEED}
 use Rattle.print.specs.Written.{decimalZ}
 use Rattle.print.proofs.Writes.{Going, going-start, going-then, going-room, going-end, wrote-then, wrote-as, wrote-long}
-use Rattle.print.proofs.Lines.{restOf, rest-more, rest-none}
+use Rattle.print.proofs.Lines.{restOf, line-rest, rest-more, rest-none}
 use Rattle.print.proofs.put_line.Statement.{statement}
 use Rattle.print.proofs.put_line.Tie as tie
 
@@ -28,14 +28,21 @@ start c =
     let put = c .before .before in
     put .before .before .before .before
 
+-- there is room for the word, the fields and the line feed
+all-room : (s : tie.Start Inv-loop μ-loop) →
+    s .args .at + (length (s .args .word .now) + length (restOf (s .args .numbers .now) 0)) ≤ length (s .args .out .now)
+all-room s =
+    let word = s .args .word .now in
+    let numbers = s .args .numbers .now in
+    omega (arith, s .pre, ap length (line-rest word numbers), length-append word (restOf numbers 0))
+
 -- there is room for the fields and the line feed
 room : (c : tie.After-slice-known2 Inv-loop μ-loop) →
     let put = c .before .before .put-word in
     put .result + length (restOf (start c .args .numbers .now) 0) ≤ length (put .last .0)
 room c =
     let word = c .before .before .put-word .ensures in
-    let s = start c in
-    omega (arith, word .ends, wrote-long word, s .pre, length-append (s .args .word .now) (restOf (s .args .numbers .now) 0))
+    omega (arith, word .ends, wrote-long word, all-room (start c))
 
 -- only the line feed is left
 last : (c : tie.After-loop Inv-loop μ-loop) → restOf (start (c .before .before) .args .numbers .now) (c .before .loop .i) ≡ LINE-FEED ∷ []
@@ -43,8 +50,7 @@ last c = rest-none (start (c .before .before) .args .numbers .now) (c .before .l
 
 put-word-requires : tie.Need-put-word-requires Inv-loop μ-loop
 put-word-requires c κs =
-    let s = c .before .before .before in
-    omega (arith, s .pre, length-append (s .args .word .now) (restOf (s .args .numbers .now) 0))
+    omega (arith, all-room (c .before .before .before))
 
 loop-holds : tie.Need-loop-holds Inv-loop μ-loop
 loop-holds c = (omega arith, omega arith, going-start _ _ _)
@@ -107,7 +113,8 @@ returns c =
     let after-loop = at-put .before .before .before in
     let at-loop = after-loop .before in
     let word = at-loop .before .before .before .put-word .ensures in
-    wrote-then word (going-end (at-loop .loop .inv .2) (room (at-loop .before)) (wrote-as (sym (last after-loop)) (at-put .put-word2 .ensures)))
+    wrote-as (line-rest _ _)
+    (wrote-then word (going-end (at-loop .loop .inv .2) (room (at-loop .before)) (wrote-as (sym (last after-loop)) (at-put .put-word2 .ensures))))
 
 pub put-line-spec : {M : Type 1} → statement M
 put-line-spec =
