@@ -14,8 +14,9 @@ use Rattle.meaning.specs.Demands.{Call, OnPlan, codes, Demand1, Demand2, Demand
 use Rattle.meaning.proofs.Promises.{one-promise}
 use Rattle.meaning.proofs.Demands.{demand-1, demand-2, demand-3, optimal}
 use Rattle.meaning.proofs.Idle.{known-plans, refuses-no-plan, counts-steps}
+use Rattle.reader.specs.declared.Answer.{Answer}
 use Rattle.solver.specs.declared.Outcome.{Outcome as Found}
-use Rattle.solver.specs.Settled.{numberOf, placeOf, named, Solves}
+use Rattle.solver.specs.Settled.{numberOf, placeOf, named, ReadInto, Solves}
 
 -- ---- one answer only
 
@@ -35,6 +36,11 @@ one-answer {x = x} {y} {q} {r} a b = go (one-promise (a .promise) (b .promise))
             ((numberOf q ≡ NO-TIMETABLE) × (numberOf r ≡ NO-TIMETABLE)) ⊎ ((q ≡ r) × (x .chain ≡ y .chain))
         by (inl e) = inl (e, sym (g .numbers) ∙ e)
         by (inr e) = inr (a .variant ∙ ap₂ named (g .numbers) (e .0) ∙ sym (b .variant), e .1)
+
+-- the same for what the reader said of a text
+pub one-outcome-of : {text held : List ℕ} {answer : Answer} {before x y : Areas} {q r : Found} → ReadInto text held answer →
+    ((t : List ℕ) → ReadInto t held answer → Solves t before x q) → ((t : List ℕ) → ReadInto t held answer → Solves t before y r) → OneAnswer x y q r
+one-outcome-of {text} h a b = one-answer (a text h) (b text h)
 
 -- ---- the demands, for what `solve` returns
 

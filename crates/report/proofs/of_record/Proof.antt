@@ -8,7 +8,7 @@ use mir.Syntax.{w32}
 use mir.Val.{SFits}
 use Rattle.report.specs.Rows.{stepNumbers}
 use Rattle.report.proofs.Puts.{Shows, none, bits, shown, shows-same}
-use Rattle.report.proofs.Names.{bound, name-upper, name-lower}
+use Rattle.report.proofs.Names.{name-upper, name-lower}
 use Rattle.report.proofs.of_record.Statement.{statement}
 use Rattle.report.proofs.of_record.Tie as tie
 
