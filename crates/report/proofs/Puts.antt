@@ -3,6 +3,7 @@ use mathlib.Core.Path.{_≡_, refl, ap, ap₂, _∙_}
 use mathlib.Core.List.{List, [], _∷_, _++_}
 use Prim.Native.Nat.{ℕ, _+_, _*_, _^_, _≤_, _<_}
 use native.Mathlib.Omega.{arith}
+use lib.Dec.{T, leb, leb→le}
 use lib.IntN.{ℤ, pos}
 use lib.ListN.{length, drop}
 use lib.Seq.{sets-eq}
@@ -70,14 +71,17 @@ shows-fit none = tt
 shows-fit (more e f s) = (f, shows-fit s)
 
 -- so many bytes have room for the word, the numbers with their tabs, and the line feed
-module _ (word : List ℕ) {xs zs : List ℤ} (s : Shows xs zs) (room : ℕ) (h : length word + (21 * length zs + 1) ≤ room) where
+module _ (word : List ℕ) {xs zs : List ℤ} (s : Shows xs zs) (room : ℕ) (h : T (leb (length word + (21 * length zs + 1)) room)) where
+  enough : length word + (21 * length zs + 1) ≤ room
+  enough = leb→le (length word + (21 * length zs + 1)) room h
+
   pub line-room : (at long : ℕ) → at + room ≤ long → at + length (line word xs) ≤ long
-  line-room at long l = omega (arith, ap (λ (l : List ℤ). length (line word l)) (shows-same s), line-most word zs (shows-fit s))
+  line-room at long l = omega (arith, ap (λ (l : List ℤ). length (line word l)) (shows-same s), line-most word zs (shows-fit s), enough)
 
   pub line-put : {a b : List ℕ} {at r : ℕ} → Wrote a b at r (line word xs) → Put a b at r room (line word zs)
   line-put p =
       let q = wrote-as (ap (line word) (shows-same s)) p in
-      record { wrote = q; few = omega (arith, q .ends, line-most word zs (shows-fit s)) }
+      record { wrote = q; few = omega (arith, q .ends, line-most word zs (shows-fit s), enough) }
 
 -- ---- lines one by one
 

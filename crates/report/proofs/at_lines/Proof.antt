@@ -60,7 +60,7 @@ put-line-requires c κs =
     let at-time = c .before .before .before in
     let l = looped at-time in
     let inv = l .loop .inv .1 in
-    line-room (bytes "at") (row at-time) LINE-ROOM (omega arith) _ _ (omega (arith, inv .few, inv .going .long, start l .pre .0))
+    line-room (bytes "at") (row at-time) LINE-ROOM tt _ _ (omega (arith, inv .few, inv .going .long, start l .pre .0))
 
 add-e : tie.Need-add-e Inv-loop μ-loop
 add-e c = omega arith
@@ -74,7 +74,7 @@ loop-again c =
     let at-time = at-put .before .before .before .before in
     let l = looped at-time in
     let s = start l in
-    let put = line-put (bytes "at") (row at-time) LINE-ROOM (omega arith) (at-put .put-line .ensures) in
+    let put = line-put (bytes "at") (row at-time) LINE-ROOM tt (at-put .put-line .ensures) in
     let more = times-more (s .args .times .now) (s .args .n) (l .loop .e) (s .pre .1) (omega arith) in
     (omega arith, printing-then (l .loop .inv .1) (LINE-ROOM * (l .loop .e + 1)) (omega arith) more put)
 

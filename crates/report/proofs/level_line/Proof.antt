@@ -50,7 +50,7 @@ slice-aggregate-put-line-2 : tie.Need-slice-aggregate-put-line-2
 slice-aggregate-put-line-2 c = search needs
 
 put-line-requires : tie.Need-put-line-requires
-put-line-requires c κs = line-room (bytes "level") (row (cast c)) LINE-ROOM (omega arith) _ _ (start (else (cast c)) .pre .0)
+put-line-requires c κs = line-room (bytes "level") (row (cast c)) LINE-ROOM tt _ _ (start (else (cast c)) .pre .0)
 
 same-length : tie.Need-same-length
 same-length c = search needs
@@ -60,7 +60,7 @@ returns-2 c =
     let at-put = c .before .before in
     let at-row = cast (at-put .before) in
     let s = start (else at-row) in
-    put-as (line-put (bytes "level") (row at-row) LINE-ROOM (omega arith) (at-put .put-line .ensures))
+    put-as (line-put (bytes "level") (row at-row) LINE-ROOM tt (at-put .put-line .ensures))
     (sym (level-some _ (s .args .k) (s .args .level) (else at-row .if1 .left)))
 
 pub level-line-spec : {M : Type 1} → statement M

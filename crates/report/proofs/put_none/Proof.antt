@@ -28,7 +28,7 @@ begin c = start (cast (c .before))
 head : (c : tie.After-put-line) →
     let args = begin c .args in
     Put (args .out .now) (c .put-line .last .0) 0 (c .put-line .result) LINE-ROOM (line (bytes "none") (pos (args .steps) ∷ []))
-head c = line-put (bytes "none") (row (cast (c .before))) LINE-ROOM (omega arith) (c .put-line .ensures)
+head c = line-put (bytes "none") (row (cast (c .before))) LINE-ROOM tt (c .put-line .ensures)
 
 to-i64-requires : tie.Need-to-i64-requires
 to-i64-requires c κs = search needs
@@ -40,7 +40,7 @@ slice-aggregate-put-line-2 : tie.Need-slice-aggregate-put-line-2
 slice-aggregate-put-line-2 c = search needs
 
 put-line-requires : tie.Need-put-line-requires
-put-line-requires c κs = line-room (bytes "none") (row (cast c)) AREA (omega arith) _ _ (start (cast c) .pre .0)
+put-line-requires c κs = line-room (bytes "none") (row (cast c)) AREA tt _ _ (start (cast c) .pre .0)
 
 step-lines-requires : tie.Need-step-lines-requires
 step-lines-requires c κs =

@@ -41,7 +41,7 @@ slice-aggregate-put-line-2 : tie.Need-slice-aggregate-put-line-2
 slice-aggregate-put-line-2 c = search needs
 
 put-line-requires : tie.Need-put-line-requires
-put-line-requires c κs = line-room (bytes "refused") (row (cast c)) AREA (omega arith) _ _ (start (cast c) .pre .0)
+put-line-requires c κs = line-room (bytes "refused") (row (cast c)) AREA tt _ _ (start (cast c) .pre .0)
 
 same-length : tie.Need-same-length
 same-length c = search needs
@@ -51,7 +51,7 @@ returns c =
     let at-put = c .before .before in
     let at-row = cast (at-put .before) in
     let args = start at-row .args in
-    λ p. put-as (line-put (bytes "refused") (row at-row) AREA (omega arith) (at-put .put-line .ensures)) (refused-form p (args .number) (args .line))
+    λ p. put-as (line-put (bytes "refused") (row at-row) AREA tt (at-put .put-line .ensures)) (refused-form p (args .number) (args .line))
 
 pub put-refused-spec : {M : Type 1} → statement M
 put-refused-spec =

@@ -52,7 +52,7 @@ begin c = start (cast (c .before) .before)
 head : (c : tie.After-put-line) →
     let args = begin c .args in
     Put (args .out .now) (c .put-line .last .0) 0 (c .put-line .result) LINE-ROOM (line (bytes "solved") (pos (args .h .events) ∷ pos (args .w) ∷ []))
-head c = line-put (bytes "solved") (row (cast (c .before))) LINE-ROOM (omega arith) (c .put-line .ensures)
+head c = line-put (bytes "solved") (row (cast (c .before))) LINE-ROOM tt (c .put-line .ensures)
 
 abbrev headed : tie.After-at-lines → tie.After-put-line
 headed c =
@@ -72,7 +72,7 @@ slice-aggregate-put-line-2 : tie.Need-slice-aggregate-put-line-2
 slice-aggregate-put-line-2 c = search needs
 
 put-line-requires : tie.Need-put-line-requires
-put-line-requires c κs = line-room (bytes "solved") (row (cast c)) AREA (omega arith) _ _ (start (cast c .before) .pre .0)
+put-line-requires c κs = line-room (bytes "solved") (row (cast c)) AREA tt _ _ (start (cast c .before) .pre .0)
 
 at-lines-requires : tie.Need-at-lines-requires
 at-lines-requires c κs =

@@ -26,7 +26,7 @@ slice-aggregate-put-line-2 : tie.Need-slice-aggregate-put-line-2
 slice-aggregate-put-line-2 c = search needs
 
 put-line-requires : tie.Need-put-line-requires
-put-line-requires c κs = line-room (bytes "step") (row (told c)) STEP-ROOM (omega arith) _ _ (told c .before .before .pre)
+put-line-requires c κs = line-room (bytes "step") (row (told c)) STEP-ROOM tt _ _ (told c .before .before .pre)
 
 same-length : tie.Need-same-length
 same-length c = search needs
@@ -34,7 +34,7 @@ same-length c = search needs
 returns : tie.Need-returns
 returns c =
     let at-put = c .before .before in
-    line-put (bytes "step") (row (told (at-put .before))) STEP-ROOM (omega arith) (at-put .put-line .ensures)
+    line-put (bytes "step") (row (told (at-put .before))) STEP-ROOM tt (at-put .put-line .ensures)
 
 pub put-step-spec : {M : Type 1} → statement M
 put-step-spec =
