@@ -1,6 +1,7 @@
 -- `report::put_solved` meets its contract: the line of the counts, the lines of the times and those of the levels.
+use mathlib.Core.Path.{_≡_}
 use mathlib.Core.List.{[], _∷_}
-use Prim.Native.Nat.{_≤_}
+use Prim.Native.Nat.{ℕ, _+_, _*_, _≤_}
 use native.Mathlib.Omega.{arith}
 use borrow.Author.Needs.{needs}
 use lib.IntN.{pos}
@@ -20,6 +21,15 @@ start c = c .before .before .before
 
 abbrev cast : tie.After-row → tie.After-to-i642
 cast c = c .before .before .before
+
+-- the area has room for the lines of the times behind the first line, and for those of the levels behind them
+times-room : (first events long : ℕ) {before : ℕ} → long ≡ before → AREA ≤ before → first ≤ 0 + LINE-ROOM → events ≤ MOST-EVENTS →
+    first + LINE-ROOM * events ≤ long
+times-room first events long e a f n = omega arith
+
+levels-room : (first next events records long : ℕ) {mid before : ℕ} → long ≡ mid → mid ≡ before → AREA ≤ before → first ≤ 0 + LINE-ROOM →
+    next ≤ first + LINE-ROOM * events → events ≤ MOST-EVENTS → records ≤ MOST-RECORDS → next + LINE-ROOM * records ≤ long
+levels-room first next events records long e g a f n m k = omega arith
 
 -- the counts are small
 record Small (s : tie.Start) : Type 0 where
@@ -79,8 +89,8 @@ at-lines-requires c κs =
     let at-head = c .before .before .before in
     let s = begin at-head in
     let h = head at-head in
-    let n = small s in
-    (omega (arith, h .few, put-long h, s .pre .0, n .events), omega (arith, s .pre .1 .1 .long, s .pre .1 .1 .holds .events), n .events)
+    let n = small s .events in
+    (times-room _ _ _ (put-long h) (s .pre .0) (h .few) n, rw (s .pre .1 .1 .holds .events) (s .pre .1 .1 .long), n)
 
 level-lines-requires : tie.Need-level-lines-requires
 level-lines-requires c κs =
@@ -89,7 +99,8 @@ level-lines-requires c κs =
     let h = head (headed at-times) in
     let a = at-times .at-lines .ensures in
     let t = s .pre .1 in
-    (omega (arith, h .few, put-long h, a .few, put-long a, s .pre .0, small s .events, small s .records), t .1 .room, (t .0, t .1 .holds, t .1 .faultless))
+    let n = small s in
+    (levels-room _ _ _ _ _ (put-long a) (put-long h) (s .pre .0) (h .few) (a .few) (n .events) (n .records), t .1 .room, (t .0, t .1 .holds, t .1 .faultless))
 
 same-length : tie.Need-same-length
 same-length c = search needs
