@@ -1,6 +1,5 @@
 -- `report::put_step` meets its contract: the fields of the struct are the numbers of the line.
 use mathlib.Core.Path.{refl}
-use native.Mathlib.Omega.{arith}
 use borrow.Author.Needs.{needs}
 use Rattle.meaning.specs.Known.{bytes}
 use Rattle.report.specs.Answer.{STEP-ROOM}
