@@ -1,11 +1,11 @@
--- Bytes written one after the other are written at once.
-use mathlib.Core.Path.{_≡_, refl, sym, ap, _∙_, subst}
-use mathlib.Core.List.{List, [], _∷_, _++_}
-use Prim.Native.Nat.{ℕ, suc, _+_, _≤_, _<_}
+-- Bytes written one after the other are written at once; and a walk that writes a whole, part by part.
+use mathlib.Core.Path.{_≡_, refl, sym, ap, ap₂, _∙_, subst}
+use mathlib.Core.List.{List, [], _∷_, _++_, append-nil, append-assoc}
+use Prim.Native.Nat.{ℕ, suc, _+_, _-_, _≤_}
 use native.Mathlib.Omega.{arith}
-use native.Mathlib.Numerals.{add-one}
-use lib.ListN.{length, length-append, set, take, getD}
-use lib.Seq.{sets, length-sets, take-suc, take-length}
+use borrow.Rule.Slice.PartMut.{midOf, putMid}
+use lib.ListN.{length, length-append, length-drop, set, take, drop, drop-of-length-le}
+use lib.Seq.{sets, length-sets, sets-eq, take-all, take-length, drop-drop}
 use Rattle.print.specs.Written.{Wrote}
 
 sets-join : (s : List ℕ) (at k : ℕ) (x y : List ℕ) → k ≡ at + length x → sets (sets s at x) k y ≡ sets s at (x ++ y)
@@ -32,18 +32,47 @@ wrote-none s at h = record { ends = omega arith; room = omega arith; holds = ref
 pub wrote-as : {s u : List ℕ} {at r : ℕ} {x y : List ℕ} → x ≡ y → Wrote s u at r x → Wrote s u at r y
 wrote-as {s} {u} {at} {r} e p = subst (λ (l : List ℕ). Wrote s u at r l) e p
 
--- one byte
-pub wrote-byte : (s : List ℕ) (at b : ℕ) → at < length s → Wrote s (set s at b) at (at + 1) (b ∷ [])
-wrote-byte s at b h = record { ends = omega arith; room = omega arith; holds = refl }
+-- a word copied to the front of the part behind `at`
+pub wrote-copied : (s part w : List ℕ) (at k : ℕ) → at + length w ≤ length s → k ≡ length w →
+    part ≡ take (length w) w ++ drop (length w) (midOf at (length s - at) s) → Wrote s (putMid at (length s - at) s part) at (at + k) w
+wrote-copied s part w at k h e f =
+    record { ends = omega arith; room = h; holds = ap (λ (l : List ℕ). take at s ++ l) copied ∙ sym (append-assoc (take at s) w _) ∙ sym (sets-eq w s at h) }
+  where
+    behind : midOf at (length s - at) s ≡ drop at s
+    behind = take-all (length s - at) (drop at s) (omega (arith, length-drop at s))
 
--- one byte more of a word
-pub wrote-next : {s u : List ℕ} {at : ℕ} (w : List ℕ) (i : ℕ) → Wrote s u at (at + i) (take i w) → i < length w → at + length w ≤ length s → Wrote s (set u (at + i) (getD w i 0)) at (at + (i + 1)) (take (i + 1) w)
-wrote-next {s} {u} {at} w i p l r =
-    let k : at + i + 1 ≡ at + (i + 1) = omega arith in
-    subst (λ (n : ℕ). Wrote s (set u (at + i) (getD w i 0)) at n (take (i + 1) w)) k
-    (wrote-as (sym (ap (λ (n : ℕ). take n w) (add-one i) ∙ take-suc w i 0 l)) (wrote-then p (wrote-byte u (at + i) (getD w i 0) (omega (arith, wrote-long p)))))
+    none : drop (length s - at) (drop at s) ≡ []
+    none = drop-of-length-le (drop at s) {i = length s - at} (omega (arith, length-drop at s))
 
--- all bytes of a word
-pub wrote-all : {s u : List ℕ} {at : ℕ} (w : List ℕ) (i : ℕ) → Wrote s u at (at + i) (take i w) → i ≡ length w → Wrote s u at (at + length w) w
-wrote-all {s} {u} {at} w i p e =
-    wrote-as (ap (λ (n : ℕ). take n w) e ∙ take-length w) (subst (λ (n : ℕ). Wrote s u at (at + n) (take i w)) e p)
+    copied : part ++ drop (length s - at) (drop at s) ≡ w ++ drop (at + length w) s
+    copied =
+        ap (λ (l : List ℕ). part ++ l) none ∙ append-nil part ∙ f
+        ∙ ap₂ (λ (x y : List ℕ). x ++ y) (take-length w) (ap (drop (length w)) behind ∙ drop-drop (length w) at s)
+
+-- ---- a whole that is written part by part
+
+-- what is written with the rest put behind it is the whole
+pub record Going (s u : List ℕ) (at next : ℕ) (whole rest : List ℕ) : Type 0 where
+  pub joined : sets u next rest ≡ sets s at whole
+  pub ends : next + length rest ≡ at + length whole
+  pub long : length u ≡ length s
+
+pub going-start : (s : List ℕ) (at : ℕ) (whole : List ℕ) → Going s s at at whole whole
+going-start s at whole = record { joined = refl; ends = refl; long = refl }
+
+module _ {s u : List ℕ} {at m : ℕ} {whole rest : List ℕ} (g : Going s u at m whole rest) where
+  -- one part more
+  pub going-then : {v : List ℕ} {r : ℕ} {x y : List ℕ} → rest ≡ x ++ y → Wrote u v m r x → Going s v at r whole y
+  going-then {v} {r} {x} {y} e p = record {
+    joined = ap (λ (l : List ℕ). sets l r y) (p .holds) ∙ sets-join u m r x y (p .ends) ∙ ap (sets u m) (sym e) ∙ g .joined;
+    ends = omega (arith, p .ends, g .ends, ap length e, length-append x y);
+    long = wrote-long p ∙ g .long;
+  }
+
+  -- there is room for what is left
+  pub going-room : at + length whole ≤ length s → m + length rest ≤ length u
+  going-room h = omega (arith, g .ends, g .long)
+
+  -- the last part
+  pub going-end : {v : List ℕ} {r : ℕ} → at + length whole ≤ length s → Wrote u v m r rest → Wrote s v at r whole
+  going-end h p = record { ends = p .ends ∙ g .ends; room = h; holds = p .holds ∙ g .joined }

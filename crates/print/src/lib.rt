@@ -1,81 +1,74 @@
-// Numbers and words put into a lent area: from the place `at` on; the answer is the place after.
+// Lines of words and numbers, put into a lent area: from the place `at` on; the answer is the place after.
 ghost use mathlib.Core.Path.{_≡_};
-ghost use mathlib.Core.List.{[], _∷_};
+ghost use mathlib.Core.List.{_∷_};
 ghost use Prim.Native.Nat.{_+_, _≤_, _<_};
 ghost use lib.IntN.{pos, natAbs};
 ghost use lib.Signed.{_<ℤ_};
 ghost use lib.ListN.{length};
 ghost use Rattle.meaning.specs.Reading.{TAB};
 ghost use Rattle.print.specs.Written.{decimal, decimalZ, Wrote};
+ghost use Rattle.print.specs.Lines.{line};
 
-// One byte at a place; the place after it.
-pub fn put_byte(out: &mut [u8], at: usize, b: u8) -> usize
-    requires { ⌜ at < length (now out) ⌝ }
-    ensures { λ r. ⌜ Wrote (now (out .entry)) (now (out .exit)) at r (b ∷ []) ⌝ }
+// The decimal digits of a 64-bit number are at most so many.
+const MOST_DIGITS: usize = 20;
+
+// The bytes of a word.
+fn put_word(out: &mut [u8], at: usize, word: &[u8]) -> usize
+    requires { ⌜ at + length (now word) ≤ length (now out) ⌝ }
+    ensures { λ r. ⌜ Wrote (now (out .entry)) (now (out .exit)) at r (now (word .entry)) ⌝ }
 {
-    out[at] = b;
-    at + 1
+    at + bytes::copy(word, &mut out[at..])
 }
 
-// The digit of a number below 10.
-fn digit(d: u64) -> u8
-    requires { ⌜ d < 10 ⌝ }
-    ensures { λ r. ⌜ r ≡ 48 + d ⌝ }
-{
-    48 + d as u8
-}
-
-// The decimal digits of a number; the place after them.
-pub fn put_digits(out: &mut [u8], at: usize, n: u64) -> usize
+// The decimal digits of a number.
+fn put_digits(out: &mut [u8], at: usize, n: u64) -> usize
     requires { ⌜ at + length (decimal n) ≤ length (now out) ⌝ }
     ensures { λ r. ⌜ Wrote (now (out .entry)) (now (out .exit)) at r (decimal n) ⌝ }
 {
-    if n < 10 {
-        put_byte(out, at, digit(n))
-    } else {
-        let next = put_digits(out, at, n / 10);
-        put_byte(out, next, digit(n % 10))
-    }
+    let mut digits = [0u8; MOST_DIGITS];
+    let k = io::decimal(n, &mut digits);
+    put_word(out, at, &digits[..k])
 }
 
-// How far a negative number lies below zero.
+// How far a negative number lies below zero: the negative of the least number would not fit, that of the one above it does.
 fn magnitude(z: i64) -> u64
     requires { ⌜ z <ℤ pos 0 ⌝ }
     ensures { λ r. ⌜ r ≡ natAbs z ⌝ }
 {
-    let less = -(z + 1);
-    less as u64 + 1
+    let above = z + 1;
+    widths::from_i64(-above) + 1
 }
 
-// A whole number; the place after it.
-pub fn put_number(out: &mut [u8], at: usize, z: i64) -> usize
+// A whole number.
+fn put_number(out: &mut [u8], at: usize, z: i64) -> usize
     requires { ⌜ at + length (decimalZ z) ≤ length (now out) ⌝ }
     ensures { λ r. ⌜ Wrote (now (out .entry)) (now (out .exit)) at r (decimalZ z) ⌝ }
 {
     if z < 0 {
-        let next = put_byte(out, at, b'-');
+        let next = put_word(out, at, b"-");
         put_digits(out, next, magnitude(z))
     } else {
-        put_digits(out, at, z as u64)
+        put_digits(out, at, widths::from_i64(z))
     }
 }
 
-// The bytes of a word; the place after them.
-pub fn put_word(out: &mut [u8], at: usize, word: &[u8]) -> usize
-    requires { ⌜ at + length (now word) ≤ length (now out) ⌝ }
-    ensures { λ r. ⌜ Wrote (now (out .entry)) (now (out .exit)) at r (now (word .entry)) ⌝ }
-{
-    for i in 0..word.len() {
-        out[at + i] = word[i];
-    }
-    at + word.len()
-}
-
-// A tab and a whole number; the place after them.
-pub fn put_field(out: &mut [u8], at: usize, z: i64) -> usize
+// A tab and a whole number.
+fn put_field(out: &mut [u8], at: usize, z: i64) -> usize
     requires { ⌜ at + length (TAB ∷ decimalZ z) ≤ length (now out) ⌝ }
     ensures { λ r. ⌜ Wrote (now (out .entry)) (now (out .exit)) at r (TAB ∷ decimalZ z) ⌝ }
 {
-    let next = put_byte(out, at, b'\t');
+    let next = put_word(out, at, b"\t");
     put_number(out, next, z)
+}
+
+// A line: a word, each number behind a tab, and a line feed.
+pub fn put_line(out: &mut [u8], at: usize, word: &[u8], numbers: &[i64]) -> usize
+    requires { ⌜ at + length (line (now word) (now numbers)) ≤ length (now out) ⌝ }
+    ensures { λ r. ⌜ Wrote (now (out .entry)) (now (out .exit)) at r (line (now (word .entry)) (now (numbers .entry))) ⌝ }
+{
+    let mut next = put_word(out, at, word);
+    for i in 0..numbers.len() {
+        next = put_field(out, next, numbers[i]);
+    }
+    put_word(out, next, b"\n")
 }

@@ -1,5 +1,5 @@
 -- The bound that a code names: what the rows of memory say of it, and that the bounds of a plan have names.
-use mathlib.Core.Path.{_≡_, sym, ap, _∙_}
+use mathlib.Core.Path.{_≡_, ap, _∙_}
 use mathlib.Core.Logic.{_⊎_, inl, inr, ⊎-elim}
 use mathlib.Core.List.{List, [], _∷_, List·Memᴰ, List·Memᴰ·not-nil, List·Memᴰ·cases-cons, List·Memᴰ·append-cases}
 use Prim.Native.Nat.{ℕ, zero, suc, _+_, _*_, _-_, _/_, _%_, _≤_, _<_}
@@ -46,51 +46,61 @@ module _ (p : M.Plan) (c : ℕ) where
 
 -- ---- the bounds of a plan have names
 
-module _ (p : M.Plan) (k : ℕ) where
-  module _ (l : k < MOST-RECORDS) where
-    upper-named : named p (2 * k) ≡ upper k (recordAt p k)
-    upper-named = let q : (2 * k) / 2 ≡ k = omega arith in name-record p (2 * k) (omega arith) ∙ rw (eq-eqb ((2 * k) % 2) 0 (omega arith), q)
+module _ (p : M.Plan) where
+  abbrev Named : Bound → Type 0
+  Named b = named p (b .code) ≡ b
 
-    lower-named : named p (2 * k + 1) ≡ lower k (recordAt p k)
-    lower-named = let q : (2 * k + 1) / 2 ≡ k = omega arith in name-record p (2 * k + 1) (omega arith) ∙ rw (ne-eqb ((2 * k + 1) % 2) 0 (λ e. omega arith), q)
+  module _ (k : ℕ) where
+    module _ (l : k < MOST-RECORDS) where
+      upper-named : Named (upper k (recordAt p k))
+      upper-named =
+          let q : (2 * k) / 2 ≡ k = omega arith in
+          name-record p (2 * k) (omega arith) ∙ rw (eq-eqb ((2 * k) % 2) 0 (omega arith), q)
 
-  latest-named : named p (HORIZON-CODES + 2 * k) ≡ horizonUpper (p .horizon) k
-  latest-named = let q : (HORIZON-CODES + 2 * k - HORIZON-CODES) / 2 ≡ k = omega arith in name-horizon p (HORIZON-CODES + 2 * k) (omega arith) ∙ rw (eq-eqb ((HORIZON-CODES + 2 * k) % 2) 0 (omega arith), q)
+      lower-named : Named (lower k (recordAt p k))
+      lower-named =
+          let q : (2 * k + 1) / 2 ≡ k = omega arith in
+          name-record p (2 * k + 1) (omega arith) ∙ rw (ne-eqb ((2 * k + 1) % 2) 0 (λ e. omega arith), q)
 
-  earliest-named : named p (HORIZON-CODES + 2 * k + 1) ≡ horizonLower k
-  earliest-named = let q : (HORIZON-CODES + 2 * k + 1 - HORIZON-CODES) / 2 ≡ k = omega arith in name-horizon p (HORIZON-CODES + 2 * k + 1) (omega arith) ∙ rw (ne-eqb ((HORIZON-CODES + 2 * k + 1) % 2) 0 (λ e. omega arith), q)
+    latest-named : Named (horizonUpper (p .horizon) k)
+    latest-named =
+        let q : (HORIZON-CODES + 2 * k - HORIZON-CODES) / 2 ≡ k = omega arith in
+        name-horizon p (HORIZON-CODES + 2 * k) (omega arith) ∙ rw (eq-eqb ((HORIZON-CODES + 2 * k) % 2) 0 (omega arith), q)
 
-module _ (p : M.Plan) (b : Bound) where
-  -- b is x, and x has its name
-  same-name : (x : Bound) → b ≡ x → named p (x .code) ≡ x → named p (b .code) ≡ b
-  same-name x e h = rw e h
+    earliest-named : Named (horizonLower k)
+    earliest-named =
+        let q : (HORIZON-CODES + 2 * k + 1 - HORIZON-CODES) / 2 ≡ k = omega arith in
+        name-horizon p (HORIZON-CODES + 2 * k + 1) (omega arith) ∙ rw (ne-eqb ((HORIZON-CODES + 2 * k + 1) % 2) 0 (λ e. omega arith), q)
 
-  records-named : (k : ℕ) (rs : List M.Record) → k + length rs ≤ MOST-RECORDS → ((i : ℕ) → i < length rs → getD rs i nothing ≡ recordAt p (k + i)) → List·Memᴰ b (recordBounds k rs) → named p (b .code) ≡ b
-  records-named k [] l f m = absurd (List·Memᴰ·not-nil m)
-  records-named k (r ∷ rs) l f m = first (List·Memᴰ·cases-cons m) (λ n. records-named (suc k) rs (omega arith) (λ i h. f (suc i) (omega arith) ∙ ap (recordAt p) (omega arith)) n)
-    where
-      here : r ≡ recordAt p k
-      here = f 0 (omega arith) ∙ ap (recordAt p) (omega arith)
+  module _ (b : Bound) where
+    -- b is one of two bounds that have their names, or one of the others
+    two-named : {x y : Bound} {others : List Bound} → Named x → Named y → (List·Memᴰ b others → Named b) → List·Memᴰ b (x ∷ y ∷ others) → Named b
+    two-named {x} {y} {others} f g h m = first (List·Memᴰ·cases-cons m)
+      where
+        same : {z : Bound} → Named z → b ≡ z → Named b
+        same n e = rw e n
 
-      second : (b ≡ lower k r) ⊎ List·Memᴰ b (recordBounds (suc k) rs) → (List·Memᴰ b (recordBounds (suc k) rs) → named p (b .code) ≡ b) → named p (b .code) ≡ b
-      second (inl e) g = same-name (lower k r) e (lower-named p k (omega arith) ∙ ap (lower k) (sym here))
-      second (inr n) g = g n
+        second : (b ≡ y) ⊎ List·Memᴰ b others → Named b
+        second (inl e) = same g e
+        second (inr n) = h n
 
-      first : (b ≡ upper k r) ⊎ List·Memᴰ b (lower k r ∷ recordBounds (suc k) rs) → (List·Memᴰ b (recordBounds (suc k) rs) → named p (b .code) ≡ b) → named p (b .code) ≡ b
-      first (inl e) g = same-name (upper k r) e (upper-named p k (omega arith) ∙ ap (upper k) (sym here))
-      first (inr n) g = second (List·Memᴰ·cases-cons n) g
+        first : (b ≡ x) ⊎ List·Memᴰ b (y ∷ others) → Named b
+        first (inl e) = same f e
+        first (inr n) = second (List·Memᴰ·cases-cons n)
 
-  horizon-named : (e m : ℕ) → List·Memᴰ b (horizonBounds (p .horizon) e m) → named p (b .code) ≡ b
-  horizon-named e zero n = absurd (List·Memᴰ·not-nil n)
-  horizon-named e (suc m) n = first (List·Memᴰ·cases-cons n) (λ o. horizon-named (suc e) m o)
-    where
-      second : (b ≡ horizonLower e) ⊎ List·Memᴰ b (horizonBounds (p .horizon) (suc e) m) → (List·Memᴰ b (horizonBounds (p .horizon) (suc e) m) → named p (b .code) ≡ b) → named p (b .code) ≡ b
-      second (inl q) g = same-name (horizonLower e) q (earliest-named p e)
-      second (inr o) g = g o
+    records-named : (k : ℕ) (rs : List M.Record) → k + length rs ≤ MOST-RECORDS → ((i : ℕ) → i < length rs → getD rs i nothing ≡ recordAt p (k + i)) →
+        List·Memᴰ b (recordBounds k rs) → Named b
+    records-named k [] l f m = absurd (List·Memᴰ·not-nil m)
+    records-named k (r ∷ rs) l f m =
+        two-named (rw here (upper-named k (omega arith))) (rw here (lower-named k (omega arith)))
+        (λ n. records-named (suc k) rs (omega arith) (λ i h. f (suc i) (omega arith) ∙ ap (recordAt p) (omega arith)) n) m
+      where
+        here : r ≡ recordAt p k
+        here = f 0 (omega arith) ∙ ap (recordAt p) (omega arith)
 
-      first : (b ≡ horizonUpper (p .horizon) e) ⊎ List·Memᴰ b (horizonLower e ∷ horizonBounds (p .horizon) (suc e) m) → (List·Memᴰ b (horizonBounds (p .horizon) (suc e) m) → named p (b .code) ≡ b) → named p (b .code) ≡ b
-      first (inl q) g = same-name (horizonUpper (p .horizon) e) q (latest-named p e)
-      first (inr o) g = second (List·Memᴰ·cases-cons o) g
+    horizon-named : (e m : ℕ) → List·Memᴰ b (horizonBounds (p .horizon) e m) → Named b
+    horizon-named e zero n = absurd (List·Memᴰ·not-nil n)
+    horizon-named e (suc m) n = two-named (latest-named e) (earliest-named e) (λ o. horizon-named (suc e) m o) n
 
 -- what is printed for a code of a chain is the bound that has the code
 pub named-right : {p : M.Plan} → WithoutFault p → (b : Bound) → List·Memᴰ b (bounds p) → named p (b .code) ≡ b

@@ -1,32 +1,27 @@
--- Bytes put one after the other: a line is its word, its numbers and the line feed.
-use mathlib.Core.Path.{_≡_, sym, ap, _∙_}
-use mathlib.Core.List.{List, [], _∷_, _++_, append-assoc}
-use Prim.Native.Nat.{ℕ, suc, _+_, _≤_}
+-- Bytes put one after the other, of which there are at most so many: a line, and lines that are put one by one.
+use mathlib.Core.Path.{_≡_, refl, ap, ap₂, _∙_}
+use mathlib.Core.List.{List, [], _∷_, _++_}
+use Prim.Native.Nat.{ℕ, _+_, _*_, _^_, _≤_, _<_}
 use native.Mathlib.Omega.{arith}
-use lib.IntN.{ℤ, pos, negsuc}
+use lib.Dec.{T, leb, leb→le}
+use lib.IntN.{ℤ, pos}
 use lib.ListN.{length, drop}
 use lib.Seq.{sets-eq}
+use lib.Signed.{mag}
 use mir.Syntax.{w64}
-use mir.Val.{SFits}
-use Rattle.meaning.specs.Reading.{TAB, LINE-FEED}
+use mir.Val.{SFits, hbits, toZ, ofZ}
+use Rattle.ticks.proofs.Ticks.{back}
 use Rattle.meaning.specs.Outcome.{over}
-use Rattle.print.specs.Written.{decimalZ, Wrote}
-use Rattle.print.proofs.Decimals.{decimal-most}
-use Rattle.print.proofs.Writes.{wrote-none, wrote-then, wrote-as, wrote-long}
-use Rattle.report.specs.Printed.{fields, line}
+use Rattle.print.specs.Written.{Wrote}
+use Rattle.print.specs.Lines.{line}
+use Rattle.print.proofs.Lines.{AllFit, line-most}
+use Rattle.print.proofs.Writes.{Going, going-start, going-then, wrote-none, wrote-then, wrote-as, wrote-long}
 use Rattle.report.specs.Put.{Put}
 
--- a number of 64 bits has at most 20 bytes
-pub number-most : (z : ℤ) → SFits w64 z → length (decimalZ z) ≤ 20
-number-most (pos n) h = let k = h .sfits in omega (arith, decimal-most 18 n (omega arith))
-number-most (negsuc n) h = let k = h .sfits in omega (arith, decimal-most 18 (suc n) (omega arith))
+-- ---- bytes that were put
 
--- bytes that were written, and how many there can be
-pub put-of : {s u : List ℕ} {at r : ℕ} {x : List ℕ} (m : ℕ) → Wrote s u at r x → length x ≤ m → Put s u at r m x
-put-of m p h = record { wrote = p; few = omega (arith, p .ends) }
-
-pub put-none : (s : List ℕ) (at : ℕ) → at ≤ length s → Put s s at at 0 []
-put-none s at h = put-of 0 (wrote-none s at h) (omega arith)
+pub put-none : (s : List ℕ) (at most : ℕ) → at ≤ length s → Put s s at at most []
+put-none s at most h = record { wrote = wrote-none s at h; few = omega arith }
 
 module _ {s u : List ℕ} {at m a : ℕ} {x : List ℕ} (p : Put s u at m a x) where
   pub put-long : length u ≡ length s
@@ -43,19 +38,69 @@ module _ {s u : List ℕ} {at m a : ℕ} {x : List ℕ} (p : Put s u at m a x) w
   pub put-most : (b : ℕ) → a ≤ b → Put s u at m b x
   put-most b h = record { wrote = p .wrote; few = omega (arith, p .few) }
 
--- what ends a line, and one number before it
-pub put-end : {s u : List ℕ} {at r : ℕ} → Wrote s u at r (LINE-FEED ∷ []) → Put s u at r 1 (fields [] ++ (LINE-FEED ∷ []))
-put-end p = put-of 1 p (omega arith)
-
-pub put-field : {s u v : List ℕ} {at m r k : ℕ} (z : ℤ) (zs : List ℤ) → Put s u at m 21 (TAB ∷ decimalZ z) → Put u v m r k (fields zs ++ (LINE-FEED ∷ [])) → Put s v at r (21 + k) (fields (z ∷ zs) ++ (LINE-FEED ∷ []))
-put-field z zs p q = put-as (put-then p q) (sym (append-assoc (TAB ∷ decimalZ z) (fields zs) (LINE-FEED ∷ [])))
-
--- a word of at most 8 bytes before the numbers
-pub put-line : {s u v w : List ℕ} {at m r k : ℕ} (most : ℕ) (zs : List ℤ) → Wrote s u at m w → length w ≤ 8 → Put u v m r k (fields zs ++ (LINE-FEED ∷ [])) → 8 + k ≤ most → Put s v at r most (line w zs)
-put-line most zs p h q e = put-most (put-then (put-of 8 p h) q) most e
-
 -- what was put at the front stands over what was there
 pub put-front : {s u x : List ℕ} {r m : ℕ} → Put s u 0 r m x → (r ≡ length x) × (u ≡ over x s)
 put-front {s} {u} {x} {r} p =
     let e : 0 + length x ≡ length x = omega arith in
     (omega (arith, p .wrote .ends), p .wrote .holds ∙ sets-eq x s 0 (p .wrote .room) ∙ ap (λ (k : ℕ). x ++ drop k s) e)
+
+-- ---- a line
+
+-- the numbers of a local array, which are read back from their bits, are these, and each fits
+pub data Shows : List ℤ → List ℤ → Type 0 where
+  none : Shows [] []
+  more : {x z : ℤ} {xs zs : List ℤ} → x ≡ z → SFits w64 z → Shows xs zs → Shows (x ∷ xs) (z ∷ zs)
+
+-- a number read back from its bits
+abbrev pub bits : List ℤ → List ℤ
+bits [] = []
+bits (z ∷ zs) = toZ w64 (ofZ w64 z) ∷ bits zs
+
+pub shown : {y : ℤ} {xs zs : List ℤ} (z : ℤ) → mag z < 2 ^ hbits w64 → z ≡ y → Shows xs zs → Shows (toZ w64 (ofZ w64 z) ∷ xs) (y ∷ zs)
+shown z h e s = more (back w64 z h ∙ e) (record { sfits = rw e at h }) s
+
+pub shown-zero : {xs zs : List ℤ} → Shows xs zs → Shows (pos 0 ∷ xs) (pos 0 ∷ zs)
+shown-zero s = more {x = pos 0} {z = pos 0} refl (record { sfits = omega arith }) s
+
+pub shows-same : {xs zs : List ℤ} → Shows xs zs → xs ≡ zs
+shows-same none = refl
+shows-same (more e f s) = ap₂ (λ (z : ℤ) (zs : List ℤ). z ∷ zs) e (shows-same s)
+
+shows-fit : {xs zs : List ℤ} → Shows xs zs → AllFit zs
+shows-fit none = tt
+shows-fit (more e f s) = (f, shows-fit s)
+
+-- so many bytes have room for the word, the numbers with their tabs, and the line feed
+module _ (word : List ℕ) {xs zs : List ℤ} (s : Shows xs zs) (room : ℕ) (h : T (leb (length word + (21 * length zs + 1)) room)) where
+  enough : length word + (21 * length zs + 1) ≤ room
+  enough = leb→le (length word + (21 * length zs + 1)) room h
+
+  pub line-room : (at long : ℕ) → at + room ≤ long → at + length (line word xs) ≤ long
+  line-room at long l = omega (arith, ap (λ (l : List ℤ). length (line word l)) (shows-same s), line-most word zs (shows-fit s), enough)
+
+  pub line-put : {a b : List ℕ} {at r : ℕ} → Wrote a b at r (line word xs) → Put a b at r room (line word zs)
+  line-put p =
+      let q = wrote-as (ap (line word) (shows-same s)) p in
+      record { wrote = q; few = omega (arith, q .ends, line-most word zs (shows-fit s), enough) }
+
+-- ---- lines one by one
+
+-- what was put with the rest behind it is the whole
+pub record Printing (s u : List ℕ) (at next most : ℕ) (whole rest : List ℕ) : Type 0 where
+  pub going : Going s u at next whole rest
+  pub few : next ≤ at + most
+
+pub printing-start : (s : List ℕ) (at : ℕ) (whole : List ℕ) → Printing s s at at 0 whole whole
+printing-start s at whole = record { going = going-start s at whole; few = omega arith }
+
+module _ {s u : List ℕ} {at m a : ℕ} {whole rest : List ℕ} (p : Printing s u at m a whole rest) where
+  pub printing-then : {v : List ℕ} {r b : ℕ} {x y : List ℕ} (c : ℕ) → a + b ≤ c → rest ≡ x ++ y → Put u v m r b x → Printing s v at r c whole y
+  printing-then c h e q = record { going = going-then (p .going) e (q .wrote); few = omega (arith, p .few, q .few) }
+
+  pub printing-end : at + a ≤ length s → rest ≡ [] → Put s u at m a whole
+  printing-end h e =
+      let g = going-then (p .going) e (wrote-none u m (omega (arith, p .few, p .going .long))) in
+      record {
+        wrote = record { ends = omega (arith, g .ends); room = omega (arith, g .ends, p .few); holds = g .joined };
+        few = p .few;
+      }

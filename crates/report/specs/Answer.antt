@@ -9,9 +9,16 @@ use Rattle.meaning.specs.Outcome.{Outcome, Right, over}
 use Rattle.reader.specs.Heard.{planIn}
 use Rattle.report.specs.Printed.{printed}
 
--- one line `solved`, a line `at` for each event and a line `level` for each wish, of at most 64 bytes each
+-- the bytes of a line with two numbers, at most; a line `step` has four
+abbrev pub LINE-ROOM : ℕ
+LINE-ROOM = 64
+
+abbrev pub STEP-ROOM : ℕ
+STEP-ROOM = 2 * LINE-ROOM
+
+-- one line `solved`, a line `at` for each event and a line `level` for each wish
 abbrev pub AREA : ℕ
-AREA = 64 * (1 + MOST-EVENTS + MOST-RECORDS)
+AREA = LINE-ROOM * (1 + MOST-EVENTS + MOST-RECORDS)
 
 -- all but the printed form keeps its old contents
 pub record Told (text before after : List ℕ) (r : ℕ) : Type 0 where

@@ -2,5 +2,5 @@
 pub mod Printed
 pub mod Put
 pub mod Rows
+pub mod Timed
 pub mod Answer
-pub mod Left

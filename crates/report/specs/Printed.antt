@@ -6,20 +6,10 @@ use lib.Dec.{eqb, ltb}
 use lib.ListN.{length}
 use lib.IntN.{ℤ, pos}
 use Rattle.meaning.specs.Plan.{Record, rule, wish, Plan, recordAt}
-use Rattle.meaning.specs.Reading.{TAB, LINE-FEED}
 use Rattle.meaning.specs.Bounds.{Bound, HORIZON-CODES, upper, lower, horizonUpper, horizonLower}
 use Rattle.meaning.specs.Outcome.{Outcome, solved, none, refusal}
 use Rattle.meaning.specs.Known.{bytes}
-use Rattle.print.specs.Written.{decimalZ}
-
--- each number behind a tab
-abbrev pub fields : List ℤ → List ℕ
-fields [] = []
-fields (z ∷ zs) = (TAB ∷ decimalZ z) ++ fields zs
-
--- a word, its numbers, and the line feed
-abbrev pub line : List ℕ → List ℤ → List ℕ
-line word zs = word ++ (fields zs ++ (LINE-FEED ∷ []))
+use Rattle.print.specs.Lines.{line}
 
 -- `at`, event, time for each event from number e on
 abbrev pub atLines : ℕ → List ℤ → List ℕ

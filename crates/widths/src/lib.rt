@@ -76,6 +76,13 @@ pub fn from_isize(count: isize) -> usize
     count as usize
 }
 
+pub fn from_i64(x: i64) -> u64
+    requires { ⌜ T (nonNeg x) ⌝ }
+    ensures { λ r. ⌜ r ≡ natAbs x ⌝ }
+{
+    x as u64
+}
+
 // A signed number with more room.
 pub fn widen(narrow: i32) -> i64
     ensures { λ r. ⌜ r ≡ narrow ⌝ }

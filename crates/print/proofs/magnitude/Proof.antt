@@ -1,6 +1,6 @@
 -- `print::magnitude` meets its contract: one more than the number's negative less one, which fits also for the least number.
-use mathlib.Core.Path.{_≡_, refl}
-use Prim.Native.Nat.{suc, _+_, _-_}
+use mathlib.Core.Path.{_≡_, refl, ap, _∙_}
+use Prim.Native.Nat.{ℕ, suc, _+_, _-_}
 use native.Mathlib.Omega.{arith}
 use lib.IntN.{ℤ, pos, negsuc, _+ℤ_, _-ℤ_, natAbs, negℤ}
 use lib.Signed.{_<ℤ_}
@@ -39,20 +39,28 @@ module _ (c : tie.Start) where
   m : SFits w64 (pos (natAbs (c .args .z) - 1))
   m = less-fits (c .args .z) (c .pre) (c .fits .z)
 
-add-less : tie.Need-add-less
-add-less c = simp (toZ-ofZ (c .fits .z)) (n c)
+add-above : tie.Need-add-above
+add-above c = simp (toZ-ofZ (c .fits .z)) (n c)
 
-sub-less : tie.Need-sub-less
-sub-less c = simp (toZ-ofZ (c .fits .z), toZ-ofZ (n c), less (c .args .z) (c .pre)) (m c)
+sub-from-i64 : tie.Need-sub-from-i64
+sub-from-i64 c = simp (toZ-ofZ (c .fits .z), toZ-ofZ (n c), less (c .args .z) (c .pre)) (m c)
 
-cast-result : tie.Need-cast-result
-cast-result c = simp (toZ-ofZ (c .fits .z), toZ-ofZ (n c), less (c .args .z) (c .pre), toZ-ofZ (m c)) (tt, omega (arith, whole-fits (c .args .z) (c .fits .z)))
+from-i64-requires : tie.Need-from-i64-requires
+from-i64-requires c κs = simp (toZ-ofZ (c .fits .z), toZ-ofZ (n c), less (c .args .z) (c .pre), toZ-ofZ (m c)) tt
+
+-- one less than the magnitude was cast
+cast : (c : tie.After-from-i64) → c .from-i64 .result ≡ natAbs (c .before .args .z) - 1
+cast c =
+    let s = c .before in
+    simp (toZ-ofZ (s .fits .z), toZ-ofZ (n s), less (s .args .z) (s .pre), toZ-ofZ (m s)) at (c .from-i64 .ensures)
 
 add-result : tie.Need-add-result
-add-result c = simp (toZ-ofZ (c .fits .z), toZ-ofZ (n c), less (c .args .z) (c .pre), toZ-ofZ (m c)) (omega (arith, whole-fits (c .args .z) (c .fits .z), whole (c .args .z) (c .pre)))
+add-result c =
+    let s = c .before in
+    omega (arith, cast c, whole-fits (s .args .z) (s .fits .z), whole (s .args .z) (s .pre))
 
 returns : tie.Need-returns
-returns c = simp (toZ-ofZ (c .fits .z), toZ-ofZ (n c), less (c .args .z) (c .pre), toZ-ofZ (m c)) (whole (c .args .z) (c .pre))
+returns c = ap (λ (k : ℕ). k + 1) (cast c) ∙ whole (c .before .args .z) (c .before .pre)
 
 pub magnitude-spec : {M : Type 1} → statement M
-magnitude-spec = tie.close (tie.spec add-less sub-less cast-result add-result returns)
+magnitude-spec = tie.close (tie.spec add-above sub-from-i64 from-i64-requires add-result returns)

@@ -11,7 +11,7 @@ use lib.ListN.{length}
 use mir.Facts.{toZ-ofZ}
 use Rattle.ticks.proofs.Ticks.{ticks}
 use Rattle.print.specs.Written.{decimal, decimalZ, Wrote}
-use Rattle.print.proofs.Decimals.{decimal-below, decimal-above, above-zero, whole-fits}
+use Rattle.print.proofs.Decimals.{decimal-below, decimal-above, above-zero}
 use Rattle.print.proofs.Writes.{wrote-then, wrote-as, wrote-long}
 use Rattle.print.proofs.put_number.Statement.{statement}
 use Rattle.print.proofs.put_number.Tie as tie
@@ -29,40 +29,76 @@ below-is z e = omega ticks
 minus-room : (z : ℤ) (at long : ℕ) → ltZ z (pos 0) ≡ true → at + length (decimalZ z) ≤ long → at + 1 + length (decimal (natAbs z)) ≤ long
 minus-room z at long e r = omega (arith, ap length (decimal-below z e))
 
-minus-then : (z : ℤ) {s u v : List ℕ} {at m r d : ℕ} → ltZ z (pos 0) ≡ true → d ≡ natAbs z → Wrote s u at m (45 ∷ []) → Wrote u v m r (decimal d) → Wrote s v at r (decimalZ z)
+minus-then : (z : ℤ) {s u v : List ℕ} {at m r d : ℕ} → ltZ z (pos 0) ≡ true → d ≡ natAbs z →
+    Wrote s u at m (45 ∷ []) → Wrote u v m r (decimal d) → Wrote s v at r (decimalZ z)
 minus-then z e f p q = wrote-as (ap (λ (k : ℕ). 45 ∷ decimal k) f ∙ sym (decimal-below z e)) (wrote-then p q)
 
-put-byte-requires : tie.Need-put-byte-requires
-put-byte-requires c κs = omega (arith, minus-room (c .before .before .before .args .z) (c .before .before .before .args .at) _ (below (c .before)) (c .before .before .before .pre))
+-- the places of the two ways
+abbrev minus-of : tie.After-magnitude → tie.After-put-word
+minus-of c = c .before .before .before .before
+
+abbrev then-of : tie.After-put-word → tie.Then1
+then-of c = c .before .before .before
+
+slice-aggregate-put-word : tie.Need-slice-aggregate-put-word
+slice-aggregate-put-word c = search needs
+
+put-word-requires : tie.Need-put-word-requires
+put-word-requires c κs =
+    let t = c .before .before in
+    let s = t .before .before in
+    omega (arith, minus-room (s .args .z) (s .args .at) _ (below t) (s .pre))
 
 magnitude-requires : tie.Need-magnitude-requires
-magnitude-requires c κs = simp (toZ-ofZ (c .before .before .before .before .before .before .before .fits .z)) (below-is (c .before .before .before .before .before .before .before .args .z) (below (c .before .before .before .before .before)))
+magnitude-requires c κs =
+    let t = then-of (c .before .before .before) in
+    let s = t .before .before in
+    simp (toZ-ofZ (s .fits .z)) (below-is (s .args .z) (below t))
 
 put-digits-requires : tie.Need-put-digits-requires
 put-digits-requires c κs =
-    simp (c .magnitude .ensures, toZ-ofZ (c .before .before .before .before .before .before .before .before .fits .z))
-    (omega (arith, minus-room (c .before .before .before .before .before .before .before .before .args .z) (c .before .before .before .before .before .before .before .before .args .at) _ (below (c .before .before .before .before .before .before)) (c .before .before .before .before .before .before .before .before .pre), c .before .before .before .before .put-byte .ensures .ends, wrote-long (c .before .before .before .before .put-byte .ensures)))
+    let p = minus-of c in
+    let t = then-of p in
+    let s = t .before .before in
+    let minus = p .put-word .ensures in
+    simp (c .magnitude .ensures, toZ-ofZ (s .fits .z))
+    (omega (arith, minus-room (s .args .z) (s .args .at) _ (below t) (s .pre), minus .ends, wrote-long minus))
 
-cast-put-digits : tie.Need-cast-put-digits
-cast-put-digits c = simp (toZ-ofZ (c .before .before .before .fits .z)) (above-zero (c .before .before .before .args .z) (above (c .before)), whole-fits (c .before .before .before .args .z) (c .before .before .before .fits .z))
+from-i64-requires : tie.Need-from-i64-requires
+from-i64-requires c κs =
+    let s = c .before .before .before in
+    simp (toZ-ofZ (s .fits .z)) (above-zero (s .args .z) (above (c .before)))
+
+-- what was cast
+cast : (c : tie.After-from-i64) → decimalZ (c .before .before .before .before .args .z) ≡ decimal (c .from-i64 .result)
+cast c =
+    let e = c .before .before in
+    let s = e .before .before in
+    decimal-above (s .args .z) (above e) ∙ sym (ap decimal (simp (toZ-ofZ (s .fits .z)) at (c .from-i64 .ensures)))
 
 put-digits-requires-2 : tie.Need-put-digits-requires-2
-put-digits-requires-2 c κs = simp (toZ-ofZ (c .before .before .before .fits .z)) (omega (arith, c .before .before .before .pre, ap length (decimal-above (c .before .before .before .args .z) (above (c .before)))))
+put-digits-requires-2 c κs = omega (arith, c .before .before .before .before .pre, ap length (cast c))
 
 same-length : tie.Need-same-length
 same-length c = search needs
 
 returns : tie.Need-returns
 returns c =
-    minus-then (c .before .before .before .before .before .before .before .before .before .before .before .args .z) (below (c .before .before .before .before .before .before .before .before .before)) (simp (toZ-ofZ (c .before .before .before .before .before .before .before .before .before .before .before .fits .z)) at (c .before .before .before .magnitude .ensures)) (c .before .before .before .before .before .before .before .put-byte .ensures) (c .before .before .put-digits .ensures)
+    let d = c .before .before in
+    let m = d .before in
+    let p = minus-of m in
+    let t = then-of p in
+    let s = t .before .before in
+    minus-then (s .args .z) (below t) (simp (toZ-ofZ (s .fits .z)) at (m .magnitude .ensures)) (p .put-word .ensures) (d .put-digits .ensures)
 
 same-length-2 : tie.Need-same-length-2
 same-length-2 c = search needs
 
 returns-2 : tie.Need-returns-2
-returns-2 c = wrote-as (simp (toZ-ofZ (c .before .before .before .before .before .before .fits .z)) (sym (decimal-above (c .before .before .before .before .before .before .args .z) (above (c .before .before .before .before))))) (c .before .before .put-digits2 .ensures)
+returns-2 c = wrote-as (sym (cast (c .before .before .before))) (c .before .before .put-digits2 .ensures)
 
 pub put-number-spec : {M : Type 1} → statement M
 put-number-spec =
     tie.close
-    (tie.spec put-byte-requires magnitude-requires put-digits-requires cast-put-digits put-digits-requires-2 same-length returns same-length-2 returns-2)
+    (tie.spec slice-aggregate-put-word put-word-requires magnitude-requires put-digits-requires from-i64-requires put-digits-requires-2 same-length
+    returns same-length-2 returns-2)

@@ -1,42 +1,66 @@
--- `report::at_lines` meets its contract: the lines of the times passed are written.
-use mathlib.Core.Path.{_≡_}
-use Prim.Native.Nat.{_*_, _-_, _≤_}
+-- `report::at_lines` meets its contract: the lines of the times passed are written, and those of the others are left.
+use mathlib.Core.Path.{_≡_, refl, ap}
+use mathlib.Core.List.{[], _∷_}
+use Prim.Native.Nat.{_+_, _*_, _-_, _≤_}
 use native.Mathlib.Omega.{arith}
 use borrow.Author.Needs.{needs}
 use lib.IntN.{pos}
-use lib.ListN.{length, take, getD}
-use mir.Syntax.{w64}
-use Rattle.ticks.proofs.Ticks.{back}
+use lib.ListN.{take, drop, getD}
+use Rattle.meaning.specs.Known.{bytes}
+use Rattle.report.specs.Answer.{LINE-ROOM}
 use Rattle.report.specs.Printed.{atLines}
-use Rattle.report.specs.Put.{Put}
-use Rattle.report.proofs.Puts.{put-none, put-long}
-use Rattle.report.proofs.Times.{at-more}
+use Rattle.report.proofs.Puts.{Shows, none, bits, shown, line-room, line-put, Printing, printing-start, printing-then, printing-end}
+use Rattle.report.proofs.Rests.{times-more, left-none}
 use Rattle.report.proofs.at_lines.Statement.{statement}
 use Rattle.report.proofs.at_lines.Tie as tie
 
 abbrev Inv-loop : tie.InvT-loop
-Inv-loop out₀ at times n next₀ e₀ t7 out next e = (e ≤ n) × (length out ≡ length out₀) × Put out₀ out at next (64 * e) (atLines 0 (take e times))
+Inv-loop out₀ at times n next₀ e₀ word out next e =
+    (e ≤ n) × Printing out₀ out at next (LINE-ROOM * e) (atLines 0 (take n times)) (atLines e (drop e (take n times)))
 
 abbrev μ-loop : tie.MeasureT-loop
-μ-loop out₀ at times n next₀ e₀ t7 out next e = n - e
+μ-loop out₀ at times n next₀ e₀ word out next e = n - e
+
+abbrev start : tie.At-loop Inv-loop μ-loop → tie.Start Inv-loop μ-loop
+start c = c .before .before
+
+abbrev looped : tie.After-t13 Inv-loop μ-loop → tie.At-loop Inv-loop μ-loop
+looped c = c .before .before .before
+
+-- the event and its time
+row : (c : tie.After-t13 Inv-loop μ-loop) →
+    let l = looped c in
+    let t = getD (start l .args .times .now) (l .loop .e) (pos 0) in
+    Shows (bits (c .before .to-i64 .result ∷ t ∷ [])) (pos (l .loop .e) ∷ t ∷ [])
+row c =
+    let l = looped c in
+    let e = c .before .to-i64 in
+    shown (e .result) (e .ok) (e .ensures) (shown (getD (start l .args .times .now) (l .loop .e) (pos 0)) (c .t13 .given) refl none)
 
 loop-holds : tie.Need-loop-holds Inv-loop μ-loop
-loop-holds c = (omega arith, omega arith, put-none (c .before .args .out .now) (c .before .args .at) (omega arith))
+loop-holds c = (omega arith, printing-start _ _ _)
 
-slice-aggregate-put-two : tie.Need-slice-aggregate-put-two Inv-loop μ-loop
-slice-aggregate-put-two c = search needs
+to-i64-requires : tie.Need-to-i64-requires Inv-loop μ-loop
+to-i64-requires c κs = search needs
 
-whole-requires : tie.Need-whole-requires Inv-loop μ-loop
-whole-requires c κs = omega arith
+mul-t11 : tie.Need-mul-t11 Inv-loop μ-loop
+mul-t11 c = search needs
 
-mul-put-two : tie.Need-mul-put-two Inv-loop μ-loop
-mul-put-two c = omega arith
+shared-slice-copy-out-t13 : tie.Need-shared-slice-copy-out-t13 Inv-loop μ-loop
+shared-slice-copy-out-t13 c = search needs
 
-shared-slice-copy-out-put-two : tie.Need-shared-slice-copy-out-put-two Inv-loop μ-loop
-shared-slice-copy-out-put-two c = omega arith
+slice-aggregate-put-line : tie.Need-slice-aggregate-put-line Inv-loop μ-loop
+slice-aggregate-put-line c = search needs
 
-put-two-requires : tie.Need-put-two-requires Inv-loop μ-loop
-put-two-requires c κs = (omega (arith, c .before .before .before .before .before .loop .inv .2 .few), omega arith)
+slice-aggregate-put-line-2 : tie.Need-slice-aggregate-put-line-2 Inv-loop μ-loop
+slice-aggregate-put-line-2 c = search needs
+
+put-line-requires : tie.Need-put-line-requires Inv-loop μ-loop
+put-line-requires c κs =
+    let at-time = c .before .before .before in
+    let l = looped at-time in
+    let inv = l .loop .inv .1 in
+    line-room (bytes "at") (row at-time) LINE-ROOM tt _ _ (omega (arith, inv .few, inv .going .long, start l .pre .0))
 
 add-e : tie.Need-add-e Inv-loop μ-loop
 add-e c = omega arith
@@ -46,20 +70,26 @@ loop-less c = omega arith
 
 loop-again : tie.Need-loop-again Inv-loop μ-loop
 loop-again c =
-    let t = getD (c .before .before .before .before .before .before .before .before .before .before .args .times .now) (c .before .before .before .before .before .before .before .before .loop .e) (pos 0) in
-    let q = simp (c .before .before .before .before .whole .ensures) at (simp (back w64 t (c .before .before .before .put-two-arg3 .given), back w64 (c .before .before .before .before .whole .result) (c .before .before .before .before .whole .ok)) at (c .before .before .put-two .ensures)) in
-    let w = at-more (c .before .before .before .before .before .before .before .before .before .before .args .times .now) (c .before .before .before .before .before .before .before .before .loop .e) (omega arith) (c .before .before .before .before .before .before .before .before .loop .inv .2) q in
-    (omega arith, put-long w, w)
+    let at-put = c .before .before in
+    let at-time = at-put .before .before .before .before in
+    let l = looped at-time in
+    let s = start l in
+    let put = line-put (bytes "at") (row at-time) LINE-ROOM tt (at-put .put-line .ensures) in
+    let more = times-more (s .args .times .now) (s .args .n) (l .loop .e) (s .pre .1) (omega arith) in
+    (omega arith, printing-then (l .loop .inv .1) (LINE-ROOM * (l .loop .e + 1)) (omega arith) more put)
 
 same-length : tie.Need-same-length Inv-loop μ-loop
-same-length c = search needs
+same-length c = c .before .loop .inv .1 .going .long
 
 returns : tie.Need-returns Inv-loop μ-loop
 returns c =
-    let e : c .before .loop .e ≡ c .before .before .before .args .n = omega arith in
-    rw e at (c .before .loop .inv .2)
+    let l = c .before in
+    let s = start l in
+    let e : l .loop .e ≡ s .args .n = omega arith in
+    printing-end (rw e at (l .loop .inv .1)) (s .pre .0) (ap (atLines (s .args .n)) (left-none (s .args .times .now) (s .args .n) (s .pre .1)))
 
 pub at-lines-spec : {M : Type 1} → statement M
 at-lines-spec =
     tie.close
-    (tie.spec Inv-loop μ-loop loop-holds slice-aggregate-put-two whole-requires mul-put-two shared-slice-copy-out-put-two put-two-requires add-e loop-less loop-again same-length returns)
+    (tie.spec Inv-loop μ-loop loop-holds to-i64-requires mul-t11 shared-slice-copy-out-t13 slice-aggregate-put-line slice-aggregate-put-line-2
+    put-line-requires add-e loop-less loop-again same-length returns)

@@ -1,36 +1,70 @@
 -- `report::level_line` meets its contract: a rule has no line, a wish its record's number and its level.
-use mathlib.Core.Path.{sym}
+use mathlib.Core.Path.{sym, ap, _∙_}
+use mathlib.Core.List.{[], _∷_}
 use native.Mathlib.Omega.{arith}
 use borrow.Author.Needs.{needs}
-use mir.Syntax.{w64}
-use Rattle.ticks.proofs.Ticks.{back}
-use Rattle.report.proofs.Puts.{put-none, put-as, put-most}
-use Rattle.report.proofs.Levels.{level-none, level-some}
+use lib.IntN.{pos}
+use Rattle.meaning.specs.Known.{bytes}
+use Rattle.report.specs.Answer.{LINE-ROOM}
+use Rattle.report.proofs.Puts.{Shows, none, bits, shown, line-room, line-put, put-none, put-as}
+use Rattle.report.proofs.Rests.{level-none, level-some}
 use Rattle.report.proofs.level_line.Statement.{statement}
 use Rattle.report.proofs.level_line.Tie as tie
 
-slice-aggregate-put-two : tie.Need-slice-aggregate-put-two
-slice-aggregate-put-two c = search needs
+-- a wish
+abbrev else : tie.After-to-i642 → tie.Else1
+else c = c .before .before .before
 
-whole-requires : tie.Need-whole-requires
-whole-requires c κs = search needs
+abbrev start : tie.Else1 → tie.Start
+start c = c .before .before
 
-whole-requires-2 : tie.Need-whole-requires-2
-whole-requires-2 c κs = search needs
+abbrev cast : tie.After-row → tie.After-to-i642
+cast c = c .before .before .before
 
-put-two-requires : tie.Need-put-two-requires
-put-two-requires c κs = search needs
+row : (c : tie.After-to-i642) →
+    let args = start (else c) .args in
+    Shows (bits (c .before .before .to-i64 .result ∷ c .to-i642 .result ∷ [])) (pos (args .k) ∷ pos (args .level) ∷ [])
+row c =
+    let k = c .before .before .to-i64 in
+    let l = c .to-i642 in
+    shown (k .result) (k .ok) (k .ensures) (shown (l .result) (l .ok) (l .ensures ∙ ap pos (c .before .from-u8 .ensures)) none)
 
 returns : tie.Need-returns
-returns c = put-as (put-most (put-none (c .before .before .args .out .now) (c .before .before .args .at) (omega arith)) 64 (omega arith)) (sym (level-none _ (c .before .before .args .k) (c .before .before .args .level) (c .if1 .taken)))
+returns c =
+    let s = c .before .before in
+    put-as (put-none (s .args .out .now) (s .args .at) LINE-ROOM (omega arith)) (sym (level-none _ (s .args .k) (s .args .level) (c .if1 .taken)))
+
+to-i64-requires : tie.Need-to-i64-requires
+to-i64-requires c κs = search needs
+
+from-u8-requires : tie.Need-from-u8-requires
+from-u8-requires c κs = search needs
+
+to-i64-requires-2 : tie.Need-to-i64-requires-2
+to-i64-requires-2 c κs = search needs
+
+slice-aggregate-put-line : tie.Need-slice-aggregate-put-line
+slice-aggregate-put-line c = search needs
+
+slice-aggregate-put-line-2 : tie.Need-slice-aggregate-put-line-2
+slice-aggregate-put-line-2 c = search needs
+
+put-line-requires : tie.Need-put-line-requires
+put-line-requires c κs = line-room (bytes "level") (row (cast c)) LINE-ROOM tt _ _ (start (else (cast c)) .pre .0)
 
 same-length : tie.Need-same-length
 same-length c = search needs
 
 returns-2 : tie.Need-returns-2
 returns-2 c =
-    let q = simp (back w64 (c .before .before .before .before .whole .result) (c .before .before .before .before .whole .ok), back w64 (c .before .before .before .whole2 .result) (c .before .before .before .whole2 .ok)) at (c .before .before .put-two .ensures) in
-    put-as (simp (c .before .before .before .before .whole .ensures, c .before .before .before .whole2 .ensures) at q) (sym (level-some _ (c .before .before .before .before .before .before .before .before .before .args .k) (c .before .before .before .before .before .before .before .before .before .args .level) (c .before .before .before .before .before .before .before .if1 .left)))
+    let at-put = c .before .before in
+    let at-row = cast (at-put .before) in
+    let s = start (else at-row) in
+    put-as (line-put (bytes "level") (row at-row) LINE-ROOM tt (at-put .put-line .ensures))
+    (sym (level-some _ (s .args .k) (s .args .level) (else at-row .if1 .left)))
 
 pub level-line-spec : {M : Type 1} → statement M
-level-line-spec = tie.close (tie.spec slice-aggregate-put-two whole-requires whole-requires-2 put-two-requires returns same-length returns-2)
+level-line-spec =
+    tie.close
+    (tie.spec returns to-i64-requires from-u8-requires to-i64-requires-2 slice-aggregate-put-line slice-aggregate-put-line-2 put-line-requires
+    same-length returns-2)

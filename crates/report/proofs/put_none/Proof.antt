@@ -1,32 +1,66 @@
 -- `report::put_none` meets its contract: the line of the count, and the lines of the steps.
-use mir.Syntax.{w64}
+use mathlib.Core.List.{[], _∷_}
+use native.Mathlib.Omega.{arith}
 use borrow.Author.Needs.{needs}
-use Rattle.ticks.proofs.Ticks.{back}
+use lib.IntN.{pos}
+use Rattle.meaning.specs.Known.{bytes}
+use Rattle.print.specs.Lines.{line}
+use Rattle.report.specs.Answer.{LINE-ROOM, AREA}
+use Rattle.report.specs.Put.{Put}
+use Rattle.report.proofs.Puts.{Shows, none, bits, shown, line-room, line-put, put-long}
 use Rattle.report.proofs.Outcomes.{none-put}
 use Rattle.report.proofs.put_none.Statement.{statement}
 use Rattle.report.proofs.put_none.Tie as tie
 
-slice-aggregate-put-one : tie.Need-slice-aggregate-put-one
-slice-aggregate-put-one c = search needs
+abbrev start : tie.After-to-i64 → tie.Start
+start c = c .before .before .before
 
-whole-requires : tie.Need-whole-requires
-whole-requires c κs = search needs
+abbrev cast : tie.After-row → tie.After-to-i64
+cast c = c .before .before .before
 
-put-one-requires : tie.Need-put-one-requires
-put-one-requires c κs = search needs
+row : (c : tie.After-to-i64) → Shows (bits (c .to-i64 .result ∷ [])) (pos (start c .args .steps) ∷ [])
+row c = let n = c .to-i64 in shown (n .result) (n .ok) (n .ensures) none
+
+abbrev begin : tie.After-put-line → tie.Start
+begin c = start (cast (c .before))
+
+-- the first line
+head : (c : tie.After-put-line) →
+    let args = begin c .args in
+    Put (args .out .now) (c .put-line .last .0) 0 (c .put-line .result) LINE-ROOM (line (bytes "none") (pos (args .steps) ∷ []))
+head c = line-put (bytes "none") (row (cast (c .before))) LINE-ROOM tt (c .put-line .ensures)
+
+to-i64-requires : tie.Need-to-i64-requires
+to-i64-requires c κs = search needs
+
+slice-aggregate-put-line : tie.Need-slice-aggregate-put-line
+slice-aggregate-put-line c = search needs
+
+slice-aggregate-put-line-2 : tie.Need-slice-aggregate-put-line-2
+slice-aggregate-put-line-2 c = search needs
+
+put-line-requires : tie.Need-put-line-requires
+put-line-requires c κs = line-room (bytes "none") (row (cast c)) AREA tt _ _ (start (cast c) .pre .0)
 
 step-lines-requires : tie.Need-step-lines-requires
-step-lines-requires c κs = search needs
+step-lines-requires c κs =
+    let at-head = c .before .before .before in
+    let s = begin at-head in
+    let h = head at-head in
+    (omega (arith, h .few, put-long h, s .pre .0, s .pre .2), s .pre .1, s .pre .3)
 
 same-length : tie.Need-same-length
 same-length c = search needs
 
 returns : tie.Need-returns
-returns c = λ p h.
-    let s = c .before .before .before .before .before .before .before .before .before .before .before .before in
-    let w = c .before .before .before .before .before .before .before .whole in
-    let q = simp (w .ensures) at (simp (back w64 (w .result) (w .ok)) at (c .before .before .before .before .before .before .put-one .ensures)) in
-    none-put p (s .args .chain .now) (s .pre .1) (s .pre .2) q (c .before .before .step-lines .ensures p h)
+returns c =
+    let at-steps = c .before .before in
+    let back = at-steps .before .before .before in
+    let at-head = back .before in
+    let s = begin at-head in
+    λ p h. none-put p (s .args .chain .now) (s .pre .1) (s .pre .2) (head at-head) (at-steps .step-lines .ensures p h)
 
 pub put-none-spec : {M : Type 1} → statement M
-put-none-spec = tie.close (tie.spec slice-aggregate-put-one whole-requires put-one-requires step-lines-requires same-length returns)
+put-none-spec =
+    tie.close
+    (tie.spec to-i64-requires slice-aggregate-put-line slice-aggregate-put-line-2 put-line-requires step-lines-requires same-length returns)

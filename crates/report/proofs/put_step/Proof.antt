@@ -1,43 +1,41 @@
 -- `report::put_step` meets its contract: the fields of the struct are the numbers of the line.
+use mathlib.Core.Path.{refl}
 use borrow.Author.Needs.{needs}
-use mir.Syntax.{w64}
-use Rattle.ticks.proofs.Ticks.{back}
+use Rattle.meaning.specs.Known.{bytes}
+use Rattle.report.specs.Answer.{STEP-ROOM}
+use Rattle.report.specs.Rows.{numbersOf}
+use Rattle.report.proofs.Puts.{Shows, none, bits, shown, line-room, line-put}
 use Rattle.report.proofs.put_step.Statement.{statement}
 use Rattle.report.proofs.put_step.Tie as tie
 
-cast-whole : tie.Need-cast-whole
-cast-whole c = search needs
+abbrev told : tie.After-row → tie.After-struct-told
+told c = c .before .before .before
 
-whole-requires : tie.Need-whole-requires
-whole-requires c κs = search needs
+row : (c : tie.After-struct-told) → let s = c .before .before .args .s in Shows (bits (numbersOf s)) (numbersOf s)
+row c =
+    let s = c .before .before .args .s in
+    let fit = c .struct-told .given in
+    shown (s .from) (fit .0 .1) refl (shown (s .to) (fit .1 .0 .1) refl (shown (s .weight) (fit .1 .1 .0 .1) refl
+    (shown (s .code) (fit .1 .1 .1 .0 .1) refl none)))
 
-cast-whole-2 : tie.Need-cast-whole-2
-cast-whole-2 c = search needs
+slice-aggregate-put-line : tie.Need-slice-aggregate-put-line
+slice-aggregate-put-line c = search needs
 
-whole-requires-2 : tie.Need-whole-requires-2
-whole-requires-2 c κs = search needs
+slice-aggregate-put-line-2 : tie.Need-slice-aggregate-put-line-2
+slice-aggregate-put-line-2 c = search needs
 
-cast-whole-3 : tie.Need-cast-whole-3
-cast-whole-3 c = search needs
-
-whole-requires-3 : tie.Need-whole-requires-3
-whole-requires-3 c κs = search needs
-
-slice-aggregate-put-four : tie.Need-slice-aggregate-put-four
-slice-aggregate-put-four c = search needs
-
-put-four-requires : tie.Need-put-four-requires
-put-four-requires c κs = search needs
+put-line-requires : tie.Need-put-line-requires
+put-line-requires c κs = line-room (bytes "step") (row (told c)) STEP-ROOM tt _ _ (told c .before .before .pre)
 
 same-length : tie.Need-same-length
 same-length c = search needs
 
 returns : tie.Need-returns
 returns c =
-    let q = simp (back w64 (c .before .before .before .before .before .before .before .before .before .before .whole .result) (c .before .before .before .before .before .before .before .before .before .before .whole .ok), back w64 (c .before .before .before .before .before .before .before .before .whole2 .result) (c .before .before .before .before .before .before .before .before .whole2 .ok), back w64 (c .before .before .before .before .before .before .whole3 .result) (c .before .before .before .before .before .before .whole3 .ok), back w64 (c .before .before .before .before .before .before .before .before .before .before .before .before .before .args .s .weight) (c .before .before .before .struct-told .given .1 .1 .0 .1)) at (c .before .before .put-four .ensures) in
-    simp (c .before .before .before .before .before .before .before .before .before .before .whole .ensures, c .before .before .before .before .before .before .before .before .whole2 .ensures, c .before .before .before .before .before .before .whole3 .ensures) at q
+    let at-put = c .before .before in
+    line-put (bytes "step") (row (told (at-put .before))) STEP-ROOM tt (at-put .put-line .ensures)
 
 pub put-step-spec : {M : Type 1} → statement M
 put-step-spec =
     tie.close
-    (tie.spec cast-whole whole-requires cast-whole-2 whole-requires-2 cast-whole-3 whole-requires-3 slice-aggregate-put-four put-four-requires same-length returns)
+    (tie.spec slice-aggregate-put-line slice-aggregate-put-line-2 put-line-requires same-length returns)

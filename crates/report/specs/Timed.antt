@@ -1,22 +1,14 @@
--- What the functions behind `answer` ask of one another: what the solver left in areas that were long enough, and the plan whose times are printed.
+-- What the form of times and levels is made of.
 use mathlib.Core.Path.{_≡_}
-use mathlib.Core.Bool.{true}
 use mathlib.Core.List.{List}
 use Prim.Native.Nat.{ℕ, _≤_}
 use lib.ListN.{length}
 use lib.IntN.{ℤ}
 use Rattle.meaning.specs.Plan as M
 use Rattle.meaning.specs.Plan.{MOST-RECORDS, wishes}
-use Rattle.meaning.specs.Outcome.{Areas, areas, longEnough, Promise}
 use Rattle.meaning.specs.Faultless.{WithoutFault}
 use Rattle.plan.specs.declared.Plan.{Plan}
 use Rattle.plan.specs.Held.{Holds}
-
-pub record Left (text : List ℕ) (times : List ℤ) (levels chain : List ℕ) (no at : ℕ) : Type 0 where
-  pub before : Areas
-  pub enough : longEnough before ≡ true
-  pub promise : Promise text before (areas times levels chain) no at
-  pub room : MOST-RECORDS ≤ length levels
 
 -- a plan in memory, the count of its wishes, and areas that have its times and levels in front
 pub record Timed (p : M.Plan) (h : Plan) (w : ℕ) (times : List ℤ) (levels : List ℕ) : Type 0 where
