@@ -14,7 +14,7 @@ use Rattle.meaning.specs.Faultless.{WithoutFault}
 use Rattle.plan.specs.declared.Record.{Record}
 use Rattle.plan.specs.declared.Plan.{Plan}
 use Rattle.plan.specs.Held.{rowOf}
-use Rattle.report.specs.Printed.{named, ofRecord, ofHorizon}
+use Rattle.codes.specs.Codes.{named, ofRecord, ofHorizon}
 
 -- ---- a code and the record or the event that it names
 

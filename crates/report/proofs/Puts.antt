@@ -1,16 +1,13 @@
 -- Bytes put one after the other, of which there are at most so many: a line, and lines that are put one by one.
-use mathlib.Core.Path.{_≡_, refl, ap, ap₂, _∙_}
+use mathlib.Core.Path.{_≡_, ap, _∙_}
 use mathlib.Core.List.{List, [], _∷_, _++_}
-use Prim.Native.Nat.{ℕ, _+_, _*_, _^_, _≤_, _<_}
+use Prim.Native.Nat.{ℕ, _+_, _*_, _≤_}
 use native.Mathlib.Omega.{arith}
 use lib.Dec.{T, leb, leb→le}
-use lib.IntN.{ℤ, pos}
+use lib.IntN.{ℤ}
 use lib.ListN.{length, drop}
 use lib.Seq.{sets-eq}
-use lib.Signed.{mag}
-use mir.Syntax.{w64}
-use mir.Val.{SFits, hbits, toZ, ofZ}
-use Rattle.ticks.proofs.Ticks.{back}
+use Rattle.ticks.proofs.Shown.{Shows, none, more, shows-same}
 use Rattle.meaning.specs.Outcome.{over}
 use Rattle.print.specs.Written.{Wrote}
 use Rattle.print.specs.Lines.{line}
@@ -45,26 +42,6 @@ put-front {s} {u} {x} {r} p =
     (omega (arith, p .wrote .ends), p .wrote .holds ∙ sets-eq x s 0 (p .wrote .room) ∙ ap (λ (k : ℕ). x ++ drop k s) e)
 
 -- ---- a line
-
--- the numbers of a local array, which are read back from their bits, are these, and each fits
-pub data Shows : List ℤ → List ℤ → Type 0 where
-  none : Shows [] []
-  more : {x z : ℤ} {xs zs : List ℤ} → x ≡ z → SFits w64 z → Shows xs zs → Shows (x ∷ xs) (z ∷ zs)
-
--- a number read back from its bits
-abbrev pub bits : List ℤ → List ℤ
-bits [] = []
-bits (z ∷ zs) = toZ w64 (ofZ w64 z) ∷ bits zs
-
-pub shown : {y : ℤ} {xs zs : List ℤ} (z : ℤ) → mag z < 2 ^ hbits w64 → z ≡ y → Shows xs zs → Shows (toZ w64 (ofZ w64 z) ∷ xs) (y ∷ zs)
-shown z h e s = more (back w64 z h ∙ e) (record { sfits = rw e at h }) s
-
-pub shown-zero : {xs zs : List ℤ} → Shows xs zs → Shows (pos 0 ∷ xs) (pos 0 ∷ zs)
-shown-zero s = more {x = pos 0} {z = pos 0} refl (record { sfits = omega arith }) s
-
-pub shows-same : {xs zs : List ℤ} → Shows xs zs → xs ≡ zs
-shows-same none = refl
-shows-same (more e f s) = ap₂ (λ (z : ℤ) (zs : List ℤ). z ∷ zs) e (shows-same s)
 
 shows-fit : {xs zs : List ℤ} → Shows xs zs → AllFit zs
 shows-fit none = tt

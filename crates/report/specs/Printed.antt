@@ -1,14 +1,13 @@
 -- The printed form: document 01, section 7.
-use Prim.Native.Nat.{ℕ, suc, _-_, _/_, _%_}
-use mathlib.Core.Bool.{cond}
+use Prim.Native.Nat.{ℕ, suc}
 use mathlib.Core.List.{List, [], _∷_, _++_}
-use lib.Dec.{eqb, ltb}
 use lib.ListN.{length}
 use lib.IntN.{ℤ, pos}
-use Rattle.meaning.specs.Plan.{Record, rule, wish, Plan, recordAt}
-use Rattle.meaning.specs.Bounds.{Bound, HORIZON-CODES, upper, lower, horizonUpper, horizonLower}
+use Rattle.meaning.specs.Plan.{Record, rule, wish, Plan}
+use Rattle.meaning.specs.Bounds.{Bound}
 use Rattle.meaning.specs.Outcome.{Outcome, solved, none, refusal}
 use Rattle.meaning.specs.Known.{bytes}
+use Rattle.codes.specs.Codes.{named, stepNumbers}
 use Rattle.print.specs.Lines.{line}
 
 -- `at`, event, time for each event from number e on
@@ -23,19 +22,9 @@ levelLines k (rule a b lo hi ∷ rs) ls = levelLines (suc k) rs ls
 levelLines k (wish a b lo vs ∷ rs) [] = []
 levelLines k (wish a b lo vs ∷ rs) (l ∷ ls) = line (bytes "level") (pos k ∷ pos l ∷ []) ++ levelLines (suc k) rs ls
 
--- the bound that a code names: 2k and 2k + 1 of record k, from HORIZON-CODES on two for each event
-abbrev pub ofRecord : Plan → ℕ → Bound
-ofRecord p c = cond (eqb (c % 2) 0) (upper (c / 2) (recordAt p (c / 2))) (lower (c / 2) (recordAt p (c / 2)))
-
-abbrev pub ofHorizon : Plan → ℕ → Bound
-ofHorizon p c = cond (eqb (c % 2) 0) (horizonUpper (p .horizon) ((c - HORIZON-CODES) / 2)) (horizonLower ((c - HORIZON-CODES) / 2))
-
-unfoldable pub named : Plan → ℕ → Bound
-named p c = cond (ltb c HORIZON-CODES) (ofRecord p c) (ofHorizon p c)
-
 -- `step`, from, to, weight, code
 abbrev pub stepLine : Bound → List ℕ
-stepLine b = line (bytes "step") (pos (b .start) ∷ pos (b .end) ∷ b .weight ∷ pos (b .code) ∷ [])
+stepLine b = line (bytes "step") (stepNumbers b)
 
 abbrev pub stepLines : Plan → List ℕ → List ℕ
 stepLines p [] = []

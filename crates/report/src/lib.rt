@@ -1,30 +1,27 @@
 // The printed form as bytes in a lent area.
 ghost use mathlib.Core.Path.{_≡_};
 ghost use mathlib.Core.Bool.{cond};
-ghost use Prim.Native.Nat.{ℕ, _+_, _*_, _/_, _≤_, _<_};
+ghost use Prim.Native.Nat.{_+_, _*_, _≤_, _<_};
 ghost use lib.Dec.{eqb};
 ghost use lib.ListN.{length, take};
-ghost use Rattle.meaning.specs.Bounds.{HORIZON-CODES};
 ghost use Rattle.meaning.specs.Plan as M;
-ghost use Rattle.meaning.specs.Plan.{wishes, recordAt, MOST-EVENTS, MOST-RECORDS, MOST-BYTES};
+ghost use Rattle.meaning.specs.Plan.{wishes, MOST-EVENTS, MOST-RECORDS, MOST-BYTES};
 ghost use Rattle.meaning.specs.Outcome.{solved, none, refusal};
 ghost use Rattle.meaning.specs.Faultless.{WithoutFault};
-ghost use Rattle.plan.specs.Held.{Holds, rowOf};
+ghost use Rattle.plan.specs.Held.{Holds};
 ghost use Rattle.meaning.specs.Known.{bytes};
 ghost use Rattle.print.specs.Lines.{line};
-ghost use Rattle.report.specs.Printed.{atLines, levelLines, ofRecord, ofHorizon, named, stepLines, printed};
+ghost use Rattle.report.specs.Printed.{atLines, levelLines, stepLines, printed};
 ghost use Rattle.report.specs.Put.{Put};
-ghost use Rattle.report.specs.Rows.{levelLine, numbersOf, stepNumbers};
+ghost use Rattle.report.specs.Rows.{levelLine};
+ghost use Rattle.codes.specs.Codes.{numbersOf};
 ghost use Rattle.report.specs.Timed.{Timed};
 ghost use Rattle.report.specs.Answer.{LINE-ROOM, STEP-ROOM, AREA, Answered};
+use codes::Step;
 use plan::Plan;
-use plan::Record;
 use scope::MOST_EVENTS;
 use scope::MOST_RECORDS;
 use solver::Outcome;
-
-// The first code of the horizon, as a code.
-const HORIZON_CODES: u16 = scope::HORIZON_CODES as u16;
 
 // The bytes of a line with two numbers, at most.
 const LINE_ROOM: usize = 64;
@@ -85,72 +82,6 @@ fn level_lines(out: &mut [u8], at: usize, h: Plan, levels: &[u8]) -> usize
 
 // ---- the lines of a chain
 
-// The numbers of a line `step`: its bound's two events, its weight and its code.
-struct Step {
-    from: i64,
-    to: i64,
-    weight: i64,
-    code: i64,
-}
-
-// The step of a record's bound that a code names.
-fn of_record(r: Record, c: u16) -> Step
-    ensures { λ s. ⌜ ((p : M.Plan) (first : ℕ) → r ≡ rowOf first (recordAt p (c / 2)) → numbersOf s ≡ stepNumbers (ofRecord p c)) ⌝ }
-{
-    let a = widths::to_i64(widths::from_u8(r.a));
-    let b = widths::to_i64(widths::from_u8(r.b));
-    let code = widths::to_i64(widths::from_u16(c));
-    if c % 2 == 0 {
-        return Step {
-            from: a,
-            to: b,
-            weight: widths::widen(r.hi),
-            code: code,
-        };
-    }
-    Step {
-        from: b,
-        to: a,
-        weight: ticks::minus_wide(r.lo),
-        code: code,
-    }
-}
-
-// The step of the horizon's bound that a code names.
-fn of_horizon(horizon: u32, c: u16) -> Step
-    requires { ⌜ HORIZON-CODES ≤ c ⌝ }
-    ensures { λ s. ⌜ ((p : M.Plan) → horizon ≡ p .horizon → numbersOf s ≡ stepNumbers (ofHorizon p c)) ⌝ }
-{
-    let e = widths::to_i64(widths::from_u16((c - HORIZON_CODES) / 2));
-    let code = widths::to_i64(widths::from_u16(c));
-    if c % 2 == 0 {
-        return Step {
-            from: 0,
-            to: e,
-            weight: widths::to_i64(widths::from_u32(horizon)),
-            code: code,
-        };
-    }
-    Step {
-        from: e,
-        to: 0,
-        weight: 0,
-        code: code,
-    }
-}
-
-// The step that a code names.
-fn step_of(h: Plan, c: u16) -> Step
-    requires { ⌜ length (h .records) ≡ MOST-RECORDS ⌝ }
-    ensures { λ s. ⌜ ((p : M.Plan) → Holds p h → numbersOf s ≡ stepNumbers (named p c)) ⌝ }
-{
-    if c < HORIZON_CODES {
-        let k = widths::from_u16(c / 2);
-        return of_record(h.records[k], c);
-    }
-    of_horizon(h.horizon, c)
-}
-
 // The line of one step; the place after it.
 fn put_step(out: &mut [u8], at: usize, s: Step) -> usize
     requires { ⌜ at + STEP-ROOM ≤ length (now out) ⌝ }
@@ -168,7 +99,7 @@ fn step_lines(out: &mut [u8], at: usize, h: Plan, chain: &[u16], steps: usize) -
 {
     let mut next = at;
     for i in 0..steps {
-        next = put_step(out, next, step_of(h, chain[i]));
+        next = put_step(out, next, codes::step_of(h, chain[i]));
     }
     next
 }

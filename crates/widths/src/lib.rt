@@ -68,19 +68,19 @@ pub fn from_i32(signed: i32) -> usize
     signed as usize
 }
 
+pub fn from_i64(wide: i64) -> u64
+    requires { ⌜ T (nonNeg wide) ⌝ }
+    ensures { λ r. ⌜ r ≡ natAbs wide ⌝ }
+{
+    wide as u64
+}
+
 // The same of a count that the system hands over.
 pub fn from_isize(count: isize) -> usize
     requires { ⌜ T (nonNeg count) ⌝ }
     ensures { λ r. ⌜ r ≡ natAbs count ⌝ }
 {
     count as usize
-}
-
-pub fn from_i64(x: i64) -> u64
-    requires { ⌜ T (nonNeg x) ⌝ }
-    ensures { λ r. ⌜ r ≡ natAbs x ⌝ }
-{
-    x as u64
 }
 
 // A signed number with more room.

@@ -1,15 +1,15 @@
--- `report::of_horizon` meets its contract: the latest time for an even code, the earliest for an odd one.
+-- `codes::of_horizon` meets its contract: the latest time for an even code, the earliest for an odd one.
 use mathlib.Core.Path.{ap, _∙_}
 use mathlib.Core.List.{List, [], _∷_, _++_}
 use Prim.Native.Nat.{_-_, _/_}
 use borrow.Author.Needs.{needs}
 use lib.IntN.{ℤ, pos}
 use Rattle.meaning.specs.Bounds.{HORIZON-CODES}
-use Rattle.report.specs.Rows.{stepNumbers}
-use Rattle.report.proofs.Puts.{Shows, none, bits, shown, shown-zero, shows-same}
-use Rattle.report.proofs.Names.{name-latest, name-earliest}
-use Rattle.report.proofs.of_horizon.Statement.{statement}
-use Rattle.report.proofs.of_horizon.Tie as tie
+use Rattle.codes.specs.Codes.{stepNumbers}
+use Rattle.ticks.proofs.Shown.{Shows, none, bits, shown, shown-zero, shows-same}
+use Rattle.codes.proofs.Names.{name-latest, name-earliest}
+use Rattle.codes.proofs.of_horizon.Statement.{statement}
+use Rattle.codes.proofs.of_horizon.Tie as tie
 
 -- ---- the casts
 

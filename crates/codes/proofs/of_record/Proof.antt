@@ -1,4 +1,4 @@
--- `report::of_record` meets its contract: the upper bound for an even code, the lower one for an odd one.
+-- `codes::of_record` meets its contract: the upper bound for an even code, the lower one for an odd one.
 use mathlib.Core.Path.{ap, _∙_}
 use mathlib.Core.List.{List, [], _∷_, _++_}
 use borrow.Author.Needs.{needs}
@@ -6,11 +6,11 @@ use lib.IntN.{ℤ, pos, negℤ}
 use mir.Facts.{toZ-ofZ}
 use mir.Syntax.{w32}
 use mir.Val.{SFits}
-use Rattle.report.specs.Rows.{stepNumbers}
-use Rattle.report.proofs.Puts.{Shows, none, bits, shown, shows-same}
-use Rattle.report.proofs.Names.{name-upper, name-lower}
-use Rattle.report.proofs.of_record.Statement.{statement}
-use Rattle.report.proofs.of_record.Tie as tie
+use Rattle.codes.specs.Codes.{stepNumbers}
+use Rattle.ticks.proofs.Shown.{Shows, none, bits, shown, shows-same}
+use Rattle.codes.proofs.Names.{name-upper, name-lower}
+use Rattle.codes.proofs.of_record.Statement.{statement}
+use Rattle.codes.proofs.of_record.Tie as tie
 
 -- ---- the casts
 

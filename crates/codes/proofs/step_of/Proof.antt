@@ -1,14 +1,14 @@
--- `report::step_of` meets its contract: codes below those of the horizon name records, the others the horizon.
+-- `codes::step_of` meets its contract: codes below those of the horizon name records, the others the horizon.
 use mathlib.Core.Path.{sym, ap, _∙_}
 use Prim.Native.Nat.{ℕ}
 use borrow.Author.Needs.{needs}
 use Rattle.meaning.specs.Plan.{recordAt}
 use Rattle.plan.specs.Held.{rowOf}
 use Rattle.plan.proofs.Use.{rowAt, held-row}
-use Rattle.report.specs.Rows.{stepNumbers}
-use Rattle.report.proofs.Names.{name-record, name-horizon}
-use Rattle.report.proofs.step_of.Statement.{statement}
-use Rattle.report.proofs.step_of.Tie as tie
+use Rattle.codes.specs.Codes.{stepNumbers}
+use Rattle.codes.proofs.Names.{name-record, name-horizon}
+use Rattle.codes.proofs.step_of.Statement.{statement}
+use Rattle.codes.proofs.step_of.Tie as tie
 
 from-u16-requires : tie.Need-from-u16-requires
 from-u16-requires c κs = search needs

@@ -9,7 +9,8 @@ use lib.ListN.{take, drop, getD}
 use Rattle.meaning.specs.Known.{bytes}
 use Rattle.report.specs.Answer.{LINE-ROOM}
 use Rattle.report.specs.Printed.{atLines}
-use Rattle.report.proofs.Puts.{Shows, none, bits, shown, line-room, line-put, Printing, printing-start, printing-then, printing-end}
+use Rattle.ticks.proofs.Shown.{Shows, none, bits, shown}
+use Rattle.report.proofs.Puts.{line-room, line-put, Printing, printing-start, printing-then, printing-end}
 use Rattle.report.proofs.Rests.{times-more, left-none}
 use Rattle.report.proofs.at_lines.Statement.{statement}
 use Rattle.report.proofs.at_lines.Tie as tie

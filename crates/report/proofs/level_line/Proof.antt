@@ -6,7 +6,8 @@ use borrow.Author.Needs.{needs}
 use lib.IntN.{pos}
 use Rattle.meaning.specs.Known.{bytes}
 use Rattle.report.specs.Answer.{LINE-ROOM}
-use Rattle.report.proofs.Puts.{Shows, none, bits, shown, line-room, line-put, put-none, put-as}
+use Rattle.ticks.proofs.Shown.{Shows, none, bits, shown}
+use Rattle.report.proofs.Puts.{line-room, line-put, put-none, put-as}
 use Rattle.report.proofs.Rests.{level-none, level-some}
 use Rattle.report.proofs.level_line.Statement.{statement}
 use Rattle.report.proofs.level_line.Tie as tie

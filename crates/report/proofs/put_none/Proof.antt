@@ -7,7 +7,8 @@ use Rattle.meaning.specs.Known.{bytes}
 use Rattle.print.specs.Lines.{line}
 use Rattle.report.specs.Answer.{LINE-ROOM, AREA}
 use Rattle.report.specs.Put.{Put}
-use Rattle.report.proofs.Puts.{Shows, none, bits, shown, line-room, line-put, put-long}
+use Rattle.ticks.proofs.Shown.{Shows, none, bits, shown}
+use Rattle.report.proofs.Puts.{line-room, line-put, put-long}
 use Rattle.report.proofs.Outcomes.{none-put}
 use Rattle.report.proofs.put_none.Statement.{statement}
 use Rattle.report.proofs.put_none.Tie as tie

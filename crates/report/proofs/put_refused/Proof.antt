@@ -5,7 +5,8 @@ use borrow.Author.Needs.{needs}
 use lib.IntN.{pos}
 use Rattle.meaning.specs.Known.{bytes}
 use Rattle.report.specs.Answer.{AREA}
-use Rattle.report.proofs.Puts.{Shows, none, bits, shown, line-room, line-put, put-as}
+use Rattle.ticks.proofs.Shown.{Shows, none, bits, shown}
+use Rattle.report.proofs.Puts.{line-room, line-put, put-as}
 use Rattle.report.proofs.Outcomes.{refused-form}
 use Rattle.report.proofs.put_refused.Statement.{statement}
 use Rattle.report.proofs.put_refused.Tie as tie

@@ -11,7 +11,8 @@ use Rattle.meaning.proofs.Wishes.{wishes-few}
 use Rattle.print.specs.Lines.{line}
 use Rattle.report.specs.Answer.{LINE-ROOM, AREA}
 use Rattle.report.specs.Put.{Put}
-use Rattle.report.proofs.Puts.{Shows, none, bits, shown, line-room, line-put, put-long}
+use Rattle.ticks.proofs.Shown.{Shows, none, bits, shown}
+use Rattle.report.proofs.Puts.{line-room, line-put, put-long}
 use Rattle.report.proofs.Outcomes.{solved-put}
 use Rattle.report.proofs.put_solved.Statement.{statement}
 use Rattle.report.proofs.put_solved.Tie as tie

@@ -3,8 +3,9 @@ use mathlib.Core.Path.{refl}
 use borrow.Author.Needs.{needs}
 use Rattle.meaning.specs.Known.{bytes}
 use Rattle.report.specs.Answer.{STEP-ROOM}
-use Rattle.report.specs.Rows.{numbersOf}
-use Rattle.report.proofs.Puts.{Shows, none, bits, shown, line-room, line-put}
+use Rattle.codes.specs.Codes.{numbersOf}
+use Rattle.ticks.proofs.Shown.{Shows, none, bits, shown}
+use Rattle.report.proofs.Puts.{line-room, line-put}
 use Rattle.report.proofs.put_step.Statement.{statement}
 use Rattle.report.proofs.put_step.Tie as tie
 

@@ -5,7 +5,7 @@ use Rattle.widths.proofs.from_i64.Statement.{statement}
 use Rattle.widths.proofs.from_i64.Tie as tie
 
 cast-result : tie.Need-cast-result
-cast-result c = rw (toZ-ofZ (c .fits .x)) (c .pre, fits-natAbs tt (c .fits .x))
+cast-result c = rw (toZ-ofZ (c .fits .wide)) (c .pre, fits-natAbs tt (c .fits .wide))
 
 returns : tie.Need-returns
 returns c = search needs

@@ -1,0 +1,2 @@
+-- That the bounds of a plan have names.
+pub mod Names
