@@ -1,7 +1,8 @@
 // The printed form as bytes in a lent area.
 ghost use mathlib.Core.Path.{_≡_};
 ghost use mathlib.Core.Bool.{cond};
-ghost use Prim.Native.Nat.{_+_, _*_, _≤_, _<_};
+ghost use mathlib.Core.List.{List};
+ghost use Prim.Native.Nat.{ℕ, _+_, _*_, _≤_, _<_};
 ghost use lib.Dec.{eqb};
 ghost use lib.ListN.{length, take};
 ghost use Rattle.meaning.specs.Plan as M;
@@ -11,14 +12,16 @@ ghost use Rattle.meaning.specs.Faultless.{WithoutFault};
 ghost use Rattle.plan.specs.Held.{Holds};
 ghost use Rattle.meaning.specs.Known.{bytes};
 ghost use Rattle.print.specs.Lines.{line};
+ghost use Rattle.solver.specs.Settled.{ReadInto};
 ghost use Rattle.report.specs.Printed.{atLines, levelLines, stepLines, printed};
 ghost use Rattle.report.specs.Put.{Put};
 ghost use Rattle.report.specs.Rows.{levelLine};
 ghost use Rattle.codes.specs.Codes.{numbersOf};
 ghost use Rattle.report.specs.Timed.{Timed};
-ghost use Rattle.report.specs.Answer.{LINE-ROOM, STEP-ROOM, AREA, Answered};
+ghost use Rattle.report.specs.Answer.{LINE-ROOM, STEP-ROOM, AREA, Told, Answered};
 use codes::Step;
 use plan::Plan;
+use reader::Answer;
 use scope::MOST_EVENTS;
 use scope::MOST_RECORDS;
 use solver::Outcome;
@@ -142,6 +145,21 @@ fn put_solved(out: &mut [u8], h: Plan, w: usize, times: &[i64], levels: &[u8]) -
     level_lines(out, next, h, levels)
 }
 
+// The form of the outcome of what the reader said.
+fn put_outcome(out: &mut [u8], said: Answer, held: &[u8]) -> usize
+    requires { ⌜ (AREA ≤ length (now out)) × ((text : List ℕ) × ReadInto text (now held) said) ⌝ }
+    ensures { λ r. ⌜ ((text : List ℕ) → ReadInto text (now (held .entry)) said → Told text (now (out .entry)) (now (out .exit)) r) ⌝ }
+{
+    let mut times = [0i64; MOST_EVENTS];
+    let mut levels = [0u8; MOST_RECORDS];
+    let mut chain = [0u16; MOST_EVENTS];
+    match solver::outcome_of(said, held, &mut times, &mut levels, &mut chain) {
+        Outcome::Solved(w) => put_solved(out, said.plan, w, &times, &levels),
+        Outcome::NoTimetable(steps) => put_none(out, said.plan, &chain, steps),
+        Outcome::Refused(number, line) => put_refused(out, number, line),
+    }
+}
+
 // The printed form of a plan text's outcome at the front of an area of at least AREA bytes; the number of its bytes, or 0 where the area is shorter.
 pub fn answer(text: &[u8], out: &mut [u8]) -> usize
     ensures { λ r. ⌜ Answered (now (text .entry)) (now (out .entry)) (now (out .exit)) r ⌝ }
@@ -151,12 +169,5 @@ pub fn answer(text: &[u8], out: &mut [u8]) -> usize
     }
     let mut held = [0u8; scope::MOST_LEVELS];
     let said = reader::read(text, &mut held);
-    let mut times = [0i64; MOST_EVENTS];
-    let mut levels = [0u8; MOST_RECORDS];
-    let mut chain = [0u16; MOST_EVENTS];
-    match solver::outcome_of(said, &held, &mut times, &mut levels, &mut chain) {
-        Outcome::Solved(w) => put_solved(out, said.plan, w, &times, &levels),
-        Outcome::NoTimetable(steps) => put_none(out, said.plan, &chain, steps),
-        Outcome::Refused(number, line) => put_refused(out, number, line),
-    }
+    put_outcome(out, said, &held)
 }
