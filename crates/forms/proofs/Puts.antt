@@ -1,6 +1,6 @@
 -- Bytes put one after the other, of which there are at most so many: a line, and lines that are put one by one.
 use mathlib.Core.Path.{_≡_, ap, _∙_}
-use mathlib.Core.List.{List, [], _∷_, _++_}
+use mathlib.Core.List.{List, [], _++_}
 use Prim.Native.Nat.{ℕ, _+_, _*_, _≤_}
 use native.Mathlib.Omega.{arith}
 use lib.Dec.{T, leb, leb→le}
@@ -13,7 +13,7 @@ use Rattle.print.specs.Written.{Wrote}
 use Rattle.print.specs.Lines.{line}
 use Rattle.print.proofs.Lines.{AllFit, line-most}
 use Rattle.print.proofs.Writes.{Going, going-start, going-then, wrote-none, wrote-then, wrote-as, wrote-long}
-use Rattle.report.specs.Put.{Put}
+use Rattle.forms.specs.Put.{Put}
 
 -- ---- bytes that were put
 

@@ -17,9 +17,9 @@ use Rattle.meaning.specs.Known.{bytes}
 use Rattle.meaning.specs.Faultless.{Levelled}
 use Rattle.plan.specs.Held.{levelsIn}
 use Rattle.print.specs.Lines.{line}
-use Rattle.report.specs.Printed.{atLines, levelLines, stepLine, stepLines}
+use Rattle.forms.specs.Printed.{atLines, levelLines, stepLine, stepLines}
 use Rattle.codes.specs.Codes.{named}
-use Rattle.report.specs.Rows.{levelLine}
+use Rattle.forms.specs.Rows.{levelLine}
 
 -- ---- what is left of the first n
 

@@ -1,21 +1,15 @@
 // What one line of a text gives: its fields, the tests of section 3 in their order, and the record that it adds to the plan.
 ghost use mathlib.Core.Path.{_≡_};
-ghost use mathlib.Core.Bool.{_&&_, _||_};
-ghost use mathlib.Core.List.{[], map};
+ghost use mathlib.Core.List.{map};
 ghost use Prim.Native.Nat.{_+_, _-_, _≤_, _<_};
 ghost use lib.ListN.{length};
 ghost use lib.Seq.{slice, sets};
-ghost use lib.Dec.{ltb};
 ghost use lib.IntN.{natAbs};
-ghost use Rattle.meaning.specs.Plan.{MOST-EVENTS, MOST-LEVELS, MOST-LEVELS-TOGETHER, MOST-BYTES};
-ghost use Rattle.meaning.specs.Peak.{peaked};
-ghost use Rattle.meaning.specs.Reading.{between, isEvent, isEnd, inRange};
+ghost use Rattle.meaning.specs.Plan.{MOST-LEVELS, MOST-LEVELS-TOGETHER, MOST-BYTES};
 ghost use Rattle.line.specs.Lines.{restOf, Fielded, AfterThree, begun, withNumber, FieldRead, Whole, Room, Gives};
+ghost use Rattle.faults.specs.Faults.{NO-FAULT, Fitting, headFault};
 ghost use Rattle.line.specs.declared.Effect.the-variants.{Head};
-ghost use Rattle.faults.specs.Faults.{NO-FAULT, areLevels, Fitting};
-ghost use Rattle.line.specs.Effects.{levelOf, lastFrom, spanOf, wishSpan, rowFrom};
-ghost use Rattle.faults.specs.Faults.{hasRoom, headFault, recordFault};
-ghost use Rattle.line.specs.Effects.{isHead, isRule, isWish, Roomy};
+ghost use Rattle.line.specs.Effects.{levelOf, lastFrom, spanOf, wishSpan, rowFrom, isHead, isRule, isWish, Roomy};
 ghost use Rattle.line.specs.Effects.{eventsEffect, ruleEffect, wishEffect, Stored, WishTaken};
 use faults::NO_FAULT;
 use faults::SoFar;

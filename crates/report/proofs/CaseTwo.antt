@@ -13,8 +13,9 @@ use Rattle.meaning.proofs.KnownAlone.{known-alone}
 use Rattle.reader.specs.Heard.{planIn}
 use Rattle.print.specs.Written.{digitsWithin, decimal}
 use Rattle.print.specs.Lines.{line}
-use Rattle.report.specs.Printed.{printed}
-use Rattle.report.specs.Answer.{AREA, Answered}
+use Rattle.forms.specs.Printed.{printed}
+use Rattle.forms.specs.Put.{AREA}
+use Rattle.report.specs.Answer.{Answered}
 
 -- ---- known plans
 

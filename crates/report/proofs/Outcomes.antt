@@ -2,72 +2,31 @@
 -- lines that were put.
 use mathlib.Core.Path.{_≡_, refl, sym, ap, ap₂, _∙_, subst}
 use mathlib.Core.Bool.{Bool, true, false, cond}
-use mathlib.Core.List.{List, [], _∷_, _++_}
-use Prim.Native.Nat.{ℕ, zero, suc, _+_, _*_, _≤_}
+use mathlib.Core.List.{List}
+use Prim.Native.Nat.{ℕ, zero, suc, _+_, _≤_}
 use native.Mathlib.Omega.{arith}
 use borrow.Author.Tests.{leb-true, leb-false}
 use lib.Dec.{leb}
 use lib.ListN.{length, take, length-map}
-use lib.Seq.{length-take-le}
-use lib.IntN.{ℤ, pos}
+use lib.IntN.{ℤ}
 use Rattle.meaning.specs.Plan.{Plan, MOST-EVENTS, MOST-BYTES, wishes}
 use Rattle.meaning.specs.Reading.{Reading, plan, refused, read}
 use Rattle.meaning.specs.Bounds.{Chain}
-use Rattle.meaning.specs.Known.{bytes}
 use Rattle.meaning.specs.Outcome.{Outcome, solved, none, refusal, Right, Solved, Areas, areas, longEnough, at, written, number, place}
 use Rattle.meaning.specs.Faultless.{WithoutFault}
 use Rattle.meaning.proofs.Levels.{levels-count}
 use Rattle.meaning.proofs.ReadGood.{read-faultless}
 use Rattle.meaning.proofs.Over.{over-front, over-room}
 use Rattle.meaning.proofs.Refusals.{Refusal, refused-number}
-use Rattle.meaning.proofs.Wishes.{wishes-few}
 use Rattle.meaning.specs.Numbers.{SOLVED, NO-TIMETABLE, WRONG-FORM, AREA-TOO-SHORT}
-use Rattle.plan.specs.declared.Plan.{Plan as Held}
 use Rattle.reader.specs.Heard.{planIn}
 use Rattle.solver.specs.declared.Outcome.{Outcome as Found}
 use Rattle.solver.specs.declared.Outcome.the-variants as Out
 use Rattle.solver.specs.Settled.{numberOf, placeOf, named, Solves}
-use Rattle.print.specs.Lines.{line}
-use Rattle.report.specs.Printed.{atLines, levelLines, stepLines, printed}
-use Rattle.report.specs.Put.{Put}
-use Rattle.report.specs.Answer.{LINE-ROOM, STEP-ROOM, AREA, Told, Answered}
-use Rattle.report.specs.Timed.{Timed}
-use Rattle.report.proofs.Puts.{put-then, put-as, put-most, put-front}
-
--- ---- the form of an outcome by its lines
-
-pub refused-form : (p : Plan) (m k : ℕ) → line (bytes "refused") (pos m ∷ pos k ∷ []) ≡ printed p (refusal m k)
-unfolding printed
-refused-form p m k = refl
-
-none-form : (p : Plan) (cs : List ℕ) → line (bytes "none") (pos (length cs) ∷ []) ++ stepLines p cs ≡ printed p (none cs)
-unfolding printed
-none-form p cs = refl
-
-solved-form : (p : Plan) (ts : List ℤ) (ls : List ℕ) →
-    line (bytes "solved") (pos (length ts) ∷ pos (length ls) ∷ []) ++ (atLines 0 ts ++ levelLines 0 (p .records) ls) ≡ printed p (solved ts ls)
-unfolding printed
-solved-form p ts ls = refl
-
-pub none-put : (p : Plan) {s u v : List ℕ} {m r steps : ℕ} (chain : List ℕ) → steps ≤ length chain → steps ≤ MOST-EVENTS →
-    Put s u 0 m LINE-ROOM (line (bytes "none") (pos steps ∷ [])) →
-    Put u v m r (STEP-ROOM * steps) (stepLines p (take steps chain)) → Put s v 0 r AREA (printed p (none (take steps chain)))
-none-put p {steps = steps} chain l f a b =
-    let e = length-take-le steps chain l in
-    let head = put-as a (ap (λ (n : ℕ). line (bytes "none") (pos n ∷ [])) (sym e)) in
-    put-most (put-as (put-then head b) (none-form p (take steps chain))) AREA (omega arith)
-
-pub solved-put : {p : Plan} {h : Held} {w : ℕ} {times : List ℤ} {levels : List ℕ} {s u v x : List ℕ} {m j r : ℕ} → Timed p h w times levels →
-    Put s u 0 m LINE-ROOM (line (bytes "solved") (pos (h .events) ∷ pos w ∷ [])) → Put u v m j (LINE-ROOM * h .events) (atLines 0 (take (h .events) times)) →
-    Put v x j r (LINE-ROOM * h .count) (levelLines 0 (p .records) (take (wishes p) levels)) →
-    Put s x 0 r AREA (printed p (solved (take (p .events) times) (take (wishes p) levels)))
-solved-put {p} {times = times} {levels = levels} t a b d =
-    let e = length-take-le (p .events) times (t .long) in
-    let f = length-take-le (wishes p) levels (omega (arith, t .room, wishes-few (p .records), t .faultless .few)) in
-    let head = put-as a (ap₂ (λ (n k : ℕ). line (bytes "solved") (pos n ∷ pos k ∷ [])) (t .holds .events ∙ sym e) (t .count ∙ sym f)) in
-    let ats = put-as b (ap (λ (n : ℕ). atLines 0 (take n times)) (t .holds .events)) in
-    put-most (put-as (put-then head (put-then ats d)) (solved-form p (take (p .events) times) (take (wishes p) levels)))
-    AREA (omega (arith, t .holds .events, t .holds .count, t .faultless .most, t .faultless .few))
+use Rattle.forms.specs.Printed.{printed}
+use Rattle.forms.specs.Put.{AREA, Put}
+use Rattle.report.specs.Answer.{Told, Answered}
+use Rattle.forms.proofs.Puts.{put-front}
 
 -- a form that was put is told
 pub told : {text s u : List ℕ} {r m : ℕ} (o : Outcome) → Right (read text) o → Put s u 0 r m (printed (planIn (read text)) o) → Told text s u r

@@ -1,24 +1,13 @@
 -- What `answer` promises: the printed form of a right outcome at the front of the area, or nothing where the area is too short.
 use mathlib.Core.Path.{_≡_}
 use mathlib.Core.List.{List}
-use Prim.Native.Nat.{ℕ, _+_, _*_, _≤_, _<_}
+use Prim.Native.Nat.{ℕ, _≤_, _<_}
 use lib.ListN.{length}
-use Rattle.meaning.specs.Plan.{MOST-EVENTS, MOST-RECORDS}
 use Rattle.meaning.specs.Reading.{read}
 use Rattle.meaning.specs.Outcome.{Outcome, Right, over}
 use Rattle.reader.specs.Heard.{planIn}
-use Rattle.report.specs.Printed.{printed}
-
--- the bytes of a line with two numbers, at most; a line `step` has four
-abbrev pub LINE-ROOM : ℕ
-LINE-ROOM = 64
-
-abbrev pub STEP-ROOM : ℕ
-STEP-ROOM = 2 * LINE-ROOM
-
--- one line `solved`, a line `at` for each event and a line `level` for each wish
-abbrev pub AREA : ℕ
-AREA = LINE-ROOM * (1 + MOST-EVENTS + MOST-RECORDS)
+use Rattle.forms.specs.Printed.{printed}
+use Rattle.forms.specs.Put.{AREA}
 
 -- all but the printed form keeps its old contents
 pub record Told (text before after : List ℕ) (r : ℕ) : Type 0 where

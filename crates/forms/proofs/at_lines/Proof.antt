@@ -1,4 +1,4 @@
--- `report::at_lines` meets its contract: the lines of the times passed are written, and those of the others are left.
+-- `forms::at_lines` meets its contract: the lines of the times passed are written, and those of the others are left.
 use mathlib.Core.Path.{_≡_, refl, ap}
 use mathlib.Core.List.{[], _∷_}
 use Prim.Native.Nat.{_+_, _*_, _-_, _≤_}
@@ -7,13 +7,13 @@ use borrow.Author.Needs.{needs}
 use lib.IntN.{pos}
 use lib.ListN.{take, drop, getD}
 use Rattle.meaning.specs.Known.{bytes}
-use Rattle.report.specs.Answer.{LINE-ROOM}
-use Rattle.report.specs.Printed.{atLines}
+use Rattle.forms.specs.Put.{LINE-ROOM}
+use Rattle.forms.specs.Printed.{atLines}
 use Rattle.ticks.proofs.Shown.{Shows, none, bits, shown}
-use Rattle.report.proofs.Puts.{line-room, line-put, Printing, printing-start, printing-then, printing-end}
-use Rattle.report.proofs.Rests.{times-more, left-none}
-use Rattle.report.proofs.at_lines.Statement.{statement}
-use Rattle.report.proofs.at_lines.Tie as tie
+use Rattle.forms.proofs.Puts.{line-room, line-put, Printing, printing-start, printing-then, printing-end}
+use Rattle.forms.proofs.Rests.{times-more, left-none}
+use Rattle.forms.proofs.at_lines.Statement.{statement}
+use Rattle.forms.proofs.at_lines.Tie as tie
 
 abbrev Inv-loop : tie.InvT-loop
 Inv-loop out₀ at times n next₀ e₀ word out next e =

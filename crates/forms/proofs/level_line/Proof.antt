@@ -1,16 +1,16 @@
--- `report::level_line` meets its contract: a rule has no line, a wish its record's number and its level.
+-- `forms::level_line` meets its contract: a rule has no line, a wish its record's number and its level.
 use mathlib.Core.Path.{sym, ap, _∙_}
 use mathlib.Core.List.{[], _∷_}
 use native.Mathlib.Omega.{arith}
 use borrow.Author.Needs.{needs}
 use lib.IntN.{pos}
 use Rattle.meaning.specs.Known.{bytes}
-use Rattle.report.specs.Answer.{LINE-ROOM}
+use Rattle.forms.specs.Put.{LINE-ROOM}
 use Rattle.ticks.proofs.Shown.{Shows, none, bits, shown}
-use Rattle.report.proofs.Puts.{line-room, line-put, put-none, put-as}
-use Rattle.report.proofs.Rests.{level-none, level-some}
-use Rattle.report.proofs.level_line.Statement.{statement}
-use Rattle.report.proofs.level_line.Tie as tie
+use Rattle.forms.proofs.Puts.{line-room, line-put, put-none, put-as}
+use Rattle.forms.proofs.Rests.{level-none, level-some}
+use Rattle.forms.proofs.level_line.Statement.{statement}
+use Rattle.forms.proofs.level_line.Tie as tie
 
 -- a wish
 abbrev else : tie.After-to-i642 → tie.Else1

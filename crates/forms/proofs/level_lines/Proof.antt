@@ -1,4 +1,4 @@
--- `report::level_lines` meets its contract: the lines of the records passed are written, for every plan that memory holds; w wishes are among them.
+-- `forms::level_lines` meets its contract: the lines of the records passed are written, for every plan that memory holds; w wishes are among them.
 use mathlib.Core.Path.{_≡_, ap}
 use mathlib.Core.List.{List}
 use Prim.Native.Nat.{ℕ, _+_, _*_, _-_, _≤_, _<_}
@@ -13,12 +13,12 @@ use Rattle.meaning.proofs.Wishes.{wishes-few}
 use Rattle.plan.specs.declared.Record.{Record}
 use Rattle.plan.specs.Held.{Holds}
 use Rattle.plan.proofs.Use.{rowAt, held-row}
-use Rattle.report.specs.Answer.{LINE-ROOM}
-use Rattle.report.specs.Printed.{levelLines}
-use Rattle.report.proofs.Puts.{Printing, printing-start, printing-then, printing-end}
-use Rattle.report.proofs.Rests.{wish-most, level-more}
-use Rattle.report.proofs.level_lines.Statement.{statement}
-use Rattle.report.proofs.level_lines.Tie as tie
+use Rattle.forms.specs.Put.{LINE-ROOM}
+use Rattle.forms.specs.Printed.{levelLines}
+use Rattle.forms.proofs.Puts.{Printing, printing-start, printing-then, printing-end}
+use Rattle.forms.proofs.Rests.{wish-most, level-more}
+use Rattle.forms.proofs.level_lines.Statement.{statement}
+use Rattle.forms.proofs.level_lines.Tie as tie
 
 -- the lines of the records below k are written, and those from k on are left, whose first wish is number w
 abbrev Passed : (out₀ out : List ℕ) (at next : ℕ) (levels : List ℕ) (p : M.Plan) (w k : ℕ) → Type 0

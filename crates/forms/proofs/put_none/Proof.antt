@@ -1,17 +1,17 @@
--- `report::put_none` meets its contract: the line of the count, and the lines of the steps.
+-- `forms::put_none` meets its contract: the line of the count, and the lines of the steps.
 use mathlib.Core.List.{[], _∷_}
 use native.Mathlib.Omega.{arith}
 use borrow.Author.Needs.{needs}
 use lib.IntN.{pos}
 use Rattle.meaning.specs.Known.{bytes}
 use Rattle.print.specs.Lines.{line}
-use Rattle.report.specs.Answer.{LINE-ROOM, AREA}
-use Rattle.report.specs.Put.{Put}
+use Rattle.forms.specs.Put.{LINE-ROOM, AREA}
+use Rattle.forms.specs.Put.{Put}
 use Rattle.ticks.proofs.Shown.{Shows, none, bits, shown}
-use Rattle.report.proofs.Puts.{line-room, line-put, put-long}
-use Rattle.report.proofs.Outcomes.{none-put}
-use Rattle.report.proofs.put_none.Statement.{statement}
-use Rattle.report.proofs.put_none.Tie as tie
+use Rattle.forms.proofs.Puts.{line-room, line-put, put-long}
+use Rattle.forms.proofs.Whole.{none-put}
+use Rattle.forms.proofs.put_none.Statement.{statement}
+use Rattle.forms.proofs.put_none.Tie as tie
 
 abbrev start : tie.After-to-i64 → tie.Start
 start c = c .before .before .before

@@ -1,15 +1,15 @@
--- `report::put_refused` meets its contract: one line.
+-- `forms::put_refused` meets its contract: one line.
 use mathlib.Core.Path.{ap, _∙_}
 use mathlib.Core.List.{[], _∷_}
 use borrow.Author.Needs.{needs}
 use lib.IntN.{pos}
 use Rattle.meaning.specs.Known.{bytes}
-use Rattle.report.specs.Answer.{AREA}
+use Rattle.forms.specs.Put.{AREA}
 use Rattle.ticks.proofs.Shown.{Shows, none, bits, shown}
-use Rattle.report.proofs.Puts.{line-room, line-put, put-as}
-use Rattle.report.proofs.Outcomes.{refused-form}
-use Rattle.report.proofs.put_refused.Statement.{statement}
-use Rattle.report.proofs.put_refused.Tie as tie
+use Rattle.forms.proofs.Puts.{line-room, line-put, put-as}
+use Rattle.forms.proofs.Whole.{refused-form}
+use Rattle.forms.proofs.put_refused.Statement.{statement}
+use Rattle.forms.proofs.put_refused.Tie as tie
 
 abbrev start : tie.After-to-i642 → tie.Start
 start c = c .before .before .before .before

@@ -1,4 +1,4 @@
--- `report::put_solved` meets its contract: the line of the counts, the lines of the times and those of the levels.
+-- `forms::put_solved` meets its contract: the line of the counts, the lines of the times and those of the levels.
 use mathlib.Core.Path.{_≡_}
 use mathlib.Core.List.{[], _∷_}
 use Prim.Native.Nat.{ℕ, _+_, _*_, _≤_}
@@ -9,13 +9,13 @@ use Rattle.meaning.specs.Plan.{MOST-EVENTS, MOST-RECORDS}
 use Rattle.meaning.specs.Known.{bytes}
 use Rattle.meaning.proofs.Wishes.{wishes-few}
 use Rattle.print.specs.Lines.{line}
-use Rattle.report.specs.Answer.{LINE-ROOM, AREA}
-use Rattle.report.specs.Put.{Put}
+use Rattle.forms.specs.Put.{LINE-ROOM, AREA}
+use Rattle.forms.specs.Put.{Put}
 use Rattle.ticks.proofs.Shown.{Shows, none, bits, shown}
-use Rattle.report.proofs.Puts.{line-room, line-put, put-long}
-use Rattle.report.proofs.Outcomes.{solved-put}
-use Rattle.report.proofs.put_solved.Statement.{statement}
-use Rattle.report.proofs.put_solved.Tie as tie
+use Rattle.forms.proofs.Puts.{line-room, line-put, put-long}
+use Rattle.forms.proofs.Whole.{solved-put}
+use Rattle.forms.proofs.put_solved.Statement.{statement}
+use Rattle.forms.proofs.put_solved.Tie as tie
 
 abbrev start : tie.After-to-i64 → tie.Start
 start c = c .before .before .before

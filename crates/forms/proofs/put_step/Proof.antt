@@ -1,13 +1,13 @@
--- `report::put_step` meets its contract: the fields of the struct are the numbers of the line.
+-- `forms::put_step` meets its contract: the fields of the struct are the numbers of the line.
 use mathlib.Core.Path.{refl}
 use borrow.Author.Needs.{needs}
 use Rattle.meaning.specs.Known.{bytes}
-use Rattle.report.specs.Answer.{STEP-ROOM}
+use Rattle.forms.specs.Put.{STEP-ROOM}
 use Rattle.codes.specs.Codes.{numbersOf}
 use Rattle.ticks.proofs.Shown.{Shows, none, bits, shown}
-use Rattle.report.proofs.Puts.{line-room, line-put}
-use Rattle.report.proofs.put_step.Statement.{statement}
-use Rattle.report.proofs.put_step.Tie as tie
+use Rattle.forms.proofs.Puts.{line-room, line-put}
+use Rattle.forms.proofs.put_step.Statement.{statement}
+use Rattle.forms.proofs.put_step.Tie as tie
 
 abbrev told : tie.After-row → tie.After-struct-told
 told c = c .before .before .before

@@ -1,4 +1,4 @@
--- `report::step_lines` meets its contract: the lines of the codes passed are written, for every plan that memory holds.
+-- `forms::step_lines` meets its contract: the lines of the codes passed are written, for every plan that memory holds.
 use mathlib.Core.Path.{_≡_, ap}
 use mathlib.Core.List.{List}
 use Prim.Native.Nat.{ℕ, _+_, _*_, _-_, _≤_}
@@ -9,12 +9,12 @@ use Rattle.meaning.specs.Plan as M
 use Rattle.meaning.specs.Known.{bytes}
 use Rattle.plan.specs.Held.{Holds}
 use Rattle.print.specs.Lines.{line}
-use Rattle.report.specs.Answer.{STEP-ROOM}
-use Rattle.report.specs.Printed.{stepLines}
-use Rattle.report.proofs.Puts.{put-as, Printing, printing-start, printing-then, printing-end}
-use Rattle.report.proofs.Rests.{steps-more, left-none}
-use Rattle.report.proofs.step_lines.Statement.{statement}
-use Rattle.report.proofs.step_lines.Tie as tie
+use Rattle.forms.specs.Put.{STEP-ROOM}
+use Rattle.forms.specs.Printed.{stepLines}
+use Rattle.forms.proofs.Puts.{put-as, Printing, printing-start, printing-then, printing-end}
+use Rattle.forms.proofs.Rests.{steps-more, left-none}
+use Rattle.forms.proofs.step_lines.Statement.{statement}
+use Rattle.forms.proofs.step_lines.Tie as tie
 
 -- the lines of the codes below i are written, and those from i on are left
 abbrev Passed : (out₀ out : List ℕ) (at next : ℕ) (codes : List ℕ) (p : M.Plan) (i : ℕ) → Type 0

@@ -1,7 +1,7 @@
--- `report::wish_of` meets its contract: the two ways.
+-- `forms::wish_of` meets its contract: the two ways.
 use borrow.Author.Tests.{eq-eqb, ne-eqb}
-use Rattle.report.proofs.wish_of.Statement.{statement}
-use Rattle.report.proofs.wish_of.Tie as tie
+use Rattle.forms.proofs.wish_of.Statement.{statement}
+use Rattle.forms.proofs.wish_of.Tie as tie
 
 returns : tie.Need-returns
 returns c = simp (eq-eqb _ _ (c .if1 .taken))

@@ -12,7 +12,7 @@ use Rattle.reader.specs.Heard.{planIn}
 use Rattle.reader.proofs.Answers.{read-holds}
 use Rattle.solver.specs.declared.Outcome.the-variants as Out
 use Rattle.solver.specs.Settled.{ReadInto}
-use Rattle.report.specs.Timed.{Timed}
+use Rattle.forms.specs.Timed.{Timed}
 use Rattle.report.proofs.Outcomes.{LeftSolved, LeftNone, LeftRefused, left-solved, left-none, left-refused, told}
 use Rattle.report.proofs.put_outcome.Statement.{statement}
 use Rattle.report.proofs.put_outcome.Tie as tie
