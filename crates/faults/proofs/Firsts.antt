@@ -89,7 +89,7 @@ unfolding peaked
 flat = refl
 
 -- the tests of a record, each by its answer
-abbrev five : Bool → Bool → Bool → Bool → Bool → ℕ
+abbrev pub five : Bool → Bool → Bool → Bool → Bool → ℕ
 five x y l s u =
     firstFault (
     unlessMet x OUT-OF-RANGE

@@ -22,7 +22,7 @@ use Rattle.line.specs.declared.Effect.the-variants.{Fault}
 use Rattle.line.specs.Lines.{Says, Counts}
 use Rattle.faults.specs.Faults.{NO-FAULT, unlessMet, firstFault, headFault, hasRoom, recordFault, entryFault}
 use Rattle.line.specs.Effects.{levelOf, wishSpan, gives}
-use Rattle.faults.proofs.Firsts.{only, flat}
+use Rattle.faults.proofs.Firsts.{only, flat, five}
 use Rattle.line.proofs.Wishes.{range-last, order-last, levels-as, levels-same}
 
 pub step-wrong : (line : ℕ) (p : M.Plan) → lineStep line p wrong ≡ fault WRONG-FORM
@@ -60,19 +60,9 @@ unfolding headFault
 head-first n h =
     head-tests (between (pos 1) (pos MOST-EVENTS) n) (between (pos 0) (pos MOST-HORIZON) h) (record { events = natAbs n; horizon = natAbs h; records = [] })
 
--- the tests of a record, each by its answer
+-- the tests of one record more, each by its answer
 abbrev tests : Bool → Bool → Bool → Bool → Bool → Bool → ℕ
-tests r x y l s u =
-    firstFault (
-    unlessMet r TOO-MANY
-    ∷ firstFault (
-    unlessMet x OUT-OF-RANGE
-    ∷ unlessMet y OUT-OF-RANGE
-    ∷ unlessMet l OUT-OF-RANGE
-    ∷ unlessMet s SAME-EVENT
-    ∷ unlessMet u NOT-PEAKED
-    ∷ [])
-    ∷ [])
+tests r x y l s u = firstFault (unlessMet r TOO-MANY ∷ five x y l s u ∷ [])
 
 rule-tests : (r x y s : Bool) (q : M.Plan)
     → unless r TOO-MANY (unless (x && y) OUT-OF-RANGE (unless s SAME-EVENT (taken q))) ≡ stepOf (tests r x y true s true) q

@@ -7,7 +7,8 @@ use lib.Dec.{leb, ltb, eqb}
 use lib.ListN.{length, getD, drop}
 use lib.IntN.{ℤ, pos, negℤ, natAbs, _+ℤ_}
 use lib.Signed.{leZ, ltZ}
-use Rattle.meaning.specs.Plan.{Record, rule, wish, Plan, MOST-EVENTS, MOST-HORIZON, MOST-END, MOST-RECORDS, MOST-LEVELS, MOST-LEVELS-TOGETHER, MOST-BYTES, TOP-LEVEL}
+use Rattle.meaning.specs.Plan.{Record, rule, wish, Plan}
+use Rattle.meaning.specs.Plan.{MOST-EVENTS, MOST-HORIZON, MOST-END, MOST-RECORDS, MOST-LEVELS, MOST-LEVELS-TOGETHER, MOST-BYTES, TOP-LEVEL}
 use Rattle.meaning.specs.Peak.{peaked}
 use Rattle.meaning.specs.Numbers.{WRONG-FORM, TOO-MANY, OUT-OF-RANGE, SAME-EVENT, NOT-PEAKED}
 
@@ -186,7 +187,8 @@ laterLine p (ruleLine a b lo hi) =
     (unless (not (sameEvent a b)) SAME-EVENT
     (taken (withRecord p (rule (natAbs a) (natAbs b) lo hi)))))
 laterLine p (wishLine a b lo ls) =
-    unless (ltb (length (p .records)) MOST-RECORDS && leb (length ls) MOST-LEVELS && leb (levelsTogether (p .records) + length ls) MOST-LEVELS-TOGETHER) TOO-MANY
+    unless (ltb (length (p .records)) MOST-RECORDS && leb (length ls) MOST-LEVELS
+    && leb (levelsTogether (p .records) + length ls) MOST-LEVELS-TOGETHER) TOO-MANY
     (unless (inRange (p .events) a b lo (lastOf lo ls) && allLevels ls) OUT-OF-RANGE
     (unless (not (sameEvent a b)) SAME-EVENT
     (unless (peaked (map natAbs ls)) NOT-PEAKED

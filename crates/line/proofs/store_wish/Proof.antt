@@ -1,7 +1,7 @@
 -- `line::store_wish` meets its contract: the levels that were stored are those that are tested.
 use mathlib.Core.Path.{_≡_, ap, _∙_}
 use mathlib.Core.List.{List}
-use Prim.Native.Nat.{_-_}
+use Prim.Native.Nat.{_+_, _-_}
 use native.Mathlib.Omega.{arith}
 use lib.ListN.{length, drop, length-drop, length-map}
 use lib.IntN.{ℤ}
@@ -48,11 +48,13 @@ returns c =
     let three = read .before .before in
     let s = three .before .before .before in
     let ls = levelsOf (s .args .text .now) (s .args .line) in
-    let stored : read .read-levels .last .1 .1 .1 .0 ≡ sets (s .args .levels .now) (s .args .plan .levels) ls
-    = rw (three .after-three .ensures .rest) (read .read-levels .ensures) in
+    let after = read .read-levels .last .1 .1 .1 .0 in
+    let stored : after ≡ sets (s .args .levels .now) (s .args .plan .levels) ls = rw (three .after-three .ensures .rest) (read .read-levels .ensures) in
+    let behind = slice (s .args .plan .levels) (s .args .plan .levels + (s .args .line .count - 3)) after in
+    let effect : c .wish-effect .result ≡ wishEffect (s .args .line) (s .args .plan) behind = c .wish-effect .ensures in
     let back = stored-slice (s .args .levels .now) ls _ (s .args .plan .levels) (s .args .line .count - 3) stored
     (length-map (left s) levelOf ∙ many s) (omega (arith, room s .together, s .pre .3)) in
-    (c .wish-effect .ensures ∙ ap (wishEffect (s .args .line) (s .args .plan)) back, stored)
+    (effect ∙ ap (wishEffect (s .args .line) (s .args .plan)) back, stored)
 
 pub store-wish-spec : {M : Type 1} → statement M
 store-wish-spec = tie.close (tie.spec after-three-requires read-levels-requires wish-effect-requires same-length returns)

@@ -23,12 +23,16 @@ part c = slice (c .args .plan .levels) (c .args .plan .levels + (c .args .line .
 room : (c : tie.Start) → Limits (c .args .plan) (c .args .line .count - 3)
 room c = limits (c .args .plan) (c .args .line .count - 3) (c .pre .2 .room)
 
+-- the fault of a wish with these numbers
+abbrev fault : tie.Start → Span → ℕ
+fault s r = recordFault (s .args .plan .events) r (part s)
+
+found : (c : tie.After-wish-fault) → fault (start (c .before)) (c .before .wish-span .result) ≡ c .wish-fault .result
+found c = sym {b = fault (start (c .before)) (c .before .wish-span .result)} (c .wish-fault .ensures)
+
 tested : (c : tie.After-wish-fault)
-    → let s = start (c .before) in
-    recordFault (s .args .plan .events) (wishSpan (s .args .line .fields) (s .args .line .count - 3)) (part s) ≡ c .wish-fault .result
-tested c =
-    let s = start (c .before) in
-    ap (λ (r : Span). recordFault (s .args .plan .events) r (part s)) (sym (c .before .wish-span .ensures)) ∙ sym (c .wish-fault .ensures)
+    → let s = start (c .before) in fault s (wishSpan (s .args .line .fields) (s .args .line .count - 3)) ≡ c .wish-fault .result
+tested c = ap (fault (start (c .before))) (sym (c .before .wish-span .ensures)) ∙ found c
 
 sub-m : tie.Need-sub-m
 sub-m c = search needs
@@ -52,8 +56,7 @@ row-of-requires : tie.Need-row-of-requires
 row-of-requires c κs =
     let w = c .before .before in
     let s = start w in
-    let none = sym (c .before .wish-fault .ensures) ∙ c .if1 .left in
-    (fitting (s .args .plan .events) (w .wish-span .result) (part s) (s .pre .1 .events) none, s .pre .1 .levels, room s .one)
+    (fitting (s .args .plan .events) (w .wish-span .result) (part s) (s .pre .1 .events) (found (c .before) ∙ c .if1 .left), s .pre .1 .levels, room s .one)
 
 returns-2 : tie.Need-returns-2
 unfolding wishEffect
