@@ -16,11 +16,11 @@ use Rattle.meaning.specs.Bounds.{Bound, upper, lower, horizonUpper, horizonLowe
 use Rattle.meaning.specs.Faultless.{GoodRecord}
 use Rattle.plan.specs.declared.Plan.{Plan}
 use Rattle.plan.specs.declared.Record.{Record as Row}
-use Rattle.plan.specs.Held.{rowOf, blank}
+use Rattle.plan.specs.Held.{rowOf, blank, Planned}
 use Rattle.plan.proofs.Use.{held-row}
 use Rattle.chain.specs.declared.Bound.{Bound as Entry}
 use Rattle.chain.specs.Clash.{MOST-BOUNDS, boundOf, none, listed}
-use Rattle.bounds.specs.Listed.{Planned, Listed}
+use Rattle.bounds.specs.Listed.{Listed}
 use Rattle.bounds.specs.Entries.{upperEntry, lowerEntry, Front}
 
 -- ---- one bound more, and two
@@ -28,19 +28,20 @@ use Rattle.bounds.specs.Entries.{upperEntry, lowerEntry, Front}
 listed-set : (list : List Entry) (m : ℕ) (a : Entry) → m < length list → listed (set list m a) (suc m) ≡ listed list m ++ (boundOf a ∷ [])
 listed-set list m a h = ap (λ l. map boundOf l) (take-suc-set list m a h) ∙ map-append boundOf (take m list) (a ∷ [])
 
-front-one : {list : List Entry} {m : ℕ} {bs : List Bound} (k : ℕ) (a : Entry) {β : Bound} → Front list m bs → k ≡ m → m < MOST-BOUNDS → boundOf a ≡ β →
-    Front (set list k a) (suc m) (bs ++ (β ∷ []))
-front-one {list} {m} k a f e h q = rw e (record {
-  long = length-set list m a ∙ f .long;
-  bounds = rw (← q, ← (f .bounds)) (listed-set list m a (omega (arith, f .long)));
-  rest = λ i l. getD-set-other list m i a none (λ e. omega arith) ∙ f .rest i (omega arith);
-})
+front-one : {list : List Entry} {i : ℕ} {bs : List Bound} (a : Entry) {β : Bound} → Front list i bs → i < MOST-BOUNDS → boundOf a ≡ β →
+    Front (set list i a) (suc i) (bs ++ (β ∷ []))
+front-one {list} {i} a f h q = record {
+  long = length-set list i a ∙ f .long;
+  bounds = rw (← q, ← (f .bounds)) (listed-set list i a (omega (arith, f .long)));
+  rest = λ k l. getD-set-other list i k a none (λ e. omega arith) ∙ f .rest k (omega arith);
+}
 
-pub front-two : {list : List Entry} {m : ℕ} {bs : List Bound} (k l n : ℕ) (a b : Entry) {β γ : Bound} →
-    Front list m bs → k ≡ m → l ≡ m + 1 → n ≡ m + 2 → n ≤ MOST-BOUNDS → boundOf a ≡ β → boundOf b ≡ γ → Front (set (set list k a) l b) n (bs ++ (β ∷ γ ∷ []))
-front-two {list} {m} {bs} k l n a b {β} {γ} f ek el en h p q =
-    let e : n ≡ suc (suc m) = omega arith in
-    rw (e, ← append-assoc bs (β ∷ []) (γ ∷ [])) (front-one l b (front-one k a f ek (omega arith) p) (omega arith) (omega arith) q)
+-- bounds stored at i and i + 1 go on after the first i, up to n
+front-two : {list : List Entry} {i : ℕ} {bs : List Bound} (n : ℕ) (a b : Entry) {β γ : Bound} → Front list i bs → n ≡ i + 2 → n ≤ MOST-BOUNDS →
+    boundOf a ≡ β → boundOf b ≡ γ → Front (set (set list i a) (i + 1) b) n (bs ++ (β ∷ γ ∷ []))
+front-two {i = i} {bs = bs} n a b {β} {γ} f e h p q =
+    let s : n ≡ suc (suc i) = omega arith in
+    rw (s, add-one i, ← append-assoc bs (β ∷ []) (γ ∷ [])) (front-one b (front-one a f (omega arith) p) (omega arith) q)
 
 -- ---- the bounds of one event more, and of one record more
 
@@ -86,11 +87,10 @@ pub horizon-none : (H : ℕ) {a : Entry} → a ≡ none → Horizon-so-far (repl
 horizon-none H {a} e = record { long = length-replicate MOST-BOUNDS a; bounds = refl; rest = λ k h. blanks MOST-BOUNDS k e }
 
 pub horizon-next : {list : List Entry} {H e : ℕ} (a b : Entry) → Horizon-so-far list H e → 1 ≤ e → 2 * e ≤ MOST-BOUNDS →
-    boundOf a ≡ horizonUpper H e → boundOf b ≡ horizonLower e → Horizon-so-far (set (set list (2 * e - 2) a) (2 * e - 1) b) H (e + 1)
+    boundOf a ≡ horizonUpper H e → boundOf b ≡ horizonLower e → Horizon-so-far (set (set list (2 * (e - 1)) a) (2 * (e - 1) + 1) b) H (e + 1)
 horizon-next {list} {H} {e} a b f low room p q =
     let s : (e + 1) - 1 ≡ suc (e - 1) = omega arith in
-    rw (s, horizon-more H 1 (e - 1) e (omega arith))
-    (front-two (2 * e - 2) (2 * e - 1) (2 * suc (e - 1)) a b f (omega arith) (omega arith) (omega arith) (omega arith) p q)
+    rw (s, horizon-more H 1 (e - 1) e (omega arith)) (front-two (2 * suc (e - 1)) a b f (omega arith) (omega arith) p q)
 
 -- the bounds of the first k records behind the first `base`
 pub record RecordsSoFar (list₀ : List Entry) (base : ℕ) (rs : List M.Record) (list : List Entry) (k : ℕ) : Type 0 where
@@ -109,8 +109,12 @@ records-next {list₀} {list} {base} {k} {rs} row f l room at =
     let r = getD rs k M.nothing in
     record {
       front =
-          rw (add-one k, records-more 0 rs k k (omega arith) l, ← append-assoc (listed list₀ base) (recordBounds 0 (take k rs)) (upper k r ∷ lower k r ∷ []))
-          (front-two (base + 2 * k) (base + 2 * k + 1) (base + 2 * suc k) (upperEntry k row) (lowerEntry k row) (f .front) refl refl
+          rw (
+            add-one k,
+            records-more 0 rs k k (omega arith) l,
+            ← append-assoc (listed list₀ base) (recordBounds 0 (take k rs)) (upper k r ∷ lower k r ∷ []),
+          )
+          (front-two (base + 2 * suc k) (upperEntry k row) (lowerEntry k row) (f .front)
           (omega arith) (omega arith) (entry-upper r k at) (entry-lower r k at));
     }
 

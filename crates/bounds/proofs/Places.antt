@@ -89,7 +89,7 @@ module _ {p : M.Plan} {list : List Entry} (s : Listed p list) where
     pub place-given : (k : ℕ) → k < boundCount p → B.Given p (boundAt list k)
     place-given k h = listed-given (le-refl (boundCount p)) (boundAt list k) (listed-at list (boundCount p) k h (omega (arith, s .long, bound-count)))
 
-    pub place-fit : (k : ℕ) → k < boundCount p → Fit (p .events) (boundAt list k .start) (boundAt list k .end) (boundAt list k .weight)
+    pub place-fit : (k : ℕ) → k < boundCount p → Fit (p .events) (boundAt list k)
     place-fit k h =
         let g = place-given k h in
         let l = bound-placed p w (boundAt list k) g in

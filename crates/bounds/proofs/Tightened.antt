@@ -39,7 +39,7 @@ tightened-next list D {from} {k} h =
 pub record Addable (list : List Entry) (n : ℕ) (D : Distances) (from m : ℕ) : Type 0 where
   pub closed : Closed n D
   pub inside : from + m ≤ length list
-  pub fit : (j : ℕ) → j < m → Fit n (boundAt list (from + j) .start) (boundAt list (from + j) .end) (boundAt list (from + j) .weight)
+  pub fit : (j : ℕ) → j < m → Fit n (boundAt list (from + j))
   pub met : (j : ℕ) → j < m → Meets (boundAt list (from + j)) (tightened list D from j)
 
 module _ (list : List Entry) (n : ℕ) (D : Distances) (from : ℕ) where
@@ -55,7 +55,7 @@ module _ (list : List Entry) (n : ℕ) (D : Distances) (from : ℕ) where
   added-last : (m : ℕ) → AddsBound n (boundAt list (from + m)) (after m) (after (suc m))
   added-last m = added-adds n (boundAt list (from + m)) (after m)
 
-  last-fit : {m : ℕ} → Addable list n D from (suc m) → Fit n (boundAt list (from + m) .start) (boundAt list (from + m) .end) (boundAt list (from + m) .weight)
+  last-fit : {m : ℕ} → Addable list n D from (suc m) → Fit n (boundAt list (from + m))
   last-fit {m} s = s .fit m (omega arith)
 
   -- closed, since each of them leaves a timetable

@@ -13,16 +13,16 @@ use lib.IntN.{ℤ, pos, _+ℤ_}
 use lib.Signed.{leZ, _≤ℤ_, _<ℤ_}
 use Rattle.ticks.proofs.Ticks.{ticks, sum, leZ-false}
 use Rattle.meaning.specs.Plan.{Times}
-use Rattle.meaning.specs.Bounds.{Bound, Holds}
+use Rattle.meaning.specs.Bounds.{Holds}
 use Rattle.meaning.specs.Distances.{Keeps, Meets, Clashes}
 use Rattle.meaning.proofs.Distances.{same-set}
 use Rattle.meaning.proofs.Walks.{Walks, walks-same}
-use Rattle.distances.specs.Matrix.{at, Net, Adding, Added}
+use Rattle.distances.specs.Matrix.{at, Net}
 use Rattle.distances.proofs.Net.{written-net}
 use Rattle.distances.proofs.Rows.{changed-more}
 use Rattle.chain.specs.declared.Bound.{Bound as Entry}
 use Rattle.chain.specs.Clash.{boundAt, listed}
-use Rattle.bounds.specs.Tried.{Trying, tightened, Tried}
+use Rattle.bounds.specs.Tried.{AddingOf, AddedOf, Trying, tightened, Tried}
 use Rattle.bounds.proofs.Tightened.{Addable, tightened-next, tightened-closed, tightened-below, tightened-keeps, tightened-walks}
 
 -- ---- the matrix
@@ -66,9 +66,6 @@ module _ {list : List Entry} {from to n r : ℕ} {d d′ : List ℤ} (asked : Tr
 
 -- ---- one bound after the other
 
-abbrev AddedAt : ℕ → Bound → List ℤ → List ℤ → Bool → Type 0
-AddedAt n β d d′ r = Added n (β .start) (β .end) (β .weight) d d′ r
-
 -- the answer of `add`
 yes-meets : (x w : ℤ) → leZ (pos 0) (x +ℤ w) ≡ true → pos 0 ≤ℤ (x +ℤ w)
 yes-meets x w e = record { le = rw e tt }
@@ -99,7 +96,7 @@ trying-up-to asked low high = record {
 
 module _ {list : List Entry} {from to n k : ℕ} {d₀ d : List ℤ} (asked : Trying list from to n d₀) (s : Tried list from k n d₀ d k) (next : k < to) where
   -- `add` may be asked for the next
-  pub adding-next : Adding n (boundAt list k .start) (boundAt list k .end) (boundAt list k .weight) d
+  pub adding-next : AddingOf n (boundAt list k) d
   adding-next =
       let f = asked .given .fit k next in
       let net = tried-net (trying-up-to asked (s .low) (omega arith)) s (asked .net) in
@@ -110,7 +107,7 @@ module _ {list : List Entry} {from to n k : ℕ} {d₀ d : List ℤ} (asked : Tr
   decides = let f = asked .given .fit k next in s .changed .done (boundAt list k .end) (boundAt list k .start) (f .end) (f .start)
 
   -- it can: one more is added
-  pub tried-more : {d′ : List ℤ} {r : Bool} → AddedAt n (boundAt list k) d d′ r → r ≡ true → Tried list from (k + 1) n d₀ d′ (k + 1)
+  pub tried-more : {d′ : List ℤ} {r : Bool} → AddedOf n (boundAt list k) d d′ r → r ≡ true → Tried list from (k + 1) n d₀ d′ (k + 1)
   tried-more a e = record {
     low = omega (arith, s .low);
     high = le-refl (k + 1);
@@ -126,7 +123,7 @@ module _ {list : List Entry} {from to n k : ℕ} {d₀ d : List ℤ} (asked : Tr
       meets = rw decides at (yes-meets (at d (boundAt list k .end) (boundAt list k .start)) (boundAt list k .weight) (sym (a .answer) ∙ e))
 
   -- it cannot: nothing changes
-  pub tried-clash : {d′ : List ℤ} {r : Bool} → AddedAt n (boundAt list k) d d′ r → r ≡ false → Tried list from to n d₀ d′ k
+  pub tried-clash : {d′ : List ℤ} {r : Bool} → AddedOf n (boundAt list k) d d′ r → r ≡ false → Tried list from to n d₀ d′ k
   tried-clash a e =
       rw (a .refused e) (record {
         low = s .low;

@@ -9,7 +9,7 @@ use Rattle.plan.specs.declared.Plan.{Plan}
 use Rattle.plan.specs.declared.Record.{Record}
 use Rattle.chain.specs.declared.Bound.{Bound as Entry}
 use Rattle.chain.specs.Clash.{MOST-BOUNDS, none, listed}
-use Rattle.bounds.specs.Listed.{Planned}
+use Rattle.plan.specs.Held.{Planned}
 
 -- the entries of record k
 abbrev pub upperEntry : ℕ → Record → Entry

@@ -5,17 +5,8 @@ use Prim.Native.Nat.{ℕ, _+_, _*_, _-_, _≤_}
 use lib.ListN.{length, getD}
 use Rattle.meaning.specs.Plan as M
 use Rattle.meaning.specs.Bounds.{Bound, horizonBounds, recordBounds}
-use Rattle.meaning.specs.Faultless.{WithoutFault}
-use Rattle.plan.specs.declared.Plan.{Plan}
-use Rattle.plan.specs.Held.{Holds}
 use Rattle.chain.specs.declared.Bound.{Bound as Entry}
 use Rattle.chain.specs.Clash.{MOST-BOUNDS, none, listed}
-
--- the struct holds a plan without fault
-pub record Planned (h : Plan) : Type 0 where
-  pub plan : M.Plan
-  pub holds : Holds plan h
-  pub faultless : WithoutFault plan
 
 abbrev pub inOrder : M.Plan → List Bound
 inOrder p = horizonBounds (p .horizon) 1 (p .events - 1) ++ recordBounds 0 (p .records)

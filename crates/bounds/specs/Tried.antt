@@ -1,11 +1,20 @@
 -- Bounds that are added one after the other, up to the first that leaves no timetable.
+use mathlib.Core.Bool.{Bool}
 use mathlib.Core.List.{List}
 use Prim.Native.Nat.{ℕ, zero, suc, _+_, _-_, _≤_, _<_}
 use lib.IntN.{ℤ}
+use Rattle.meaning.specs.Bounds.{Bound}
 use Rattle.meaning.specs.Distances.{Distances, addedBound, Meets, Clashes}
-use Rattle.distances.specs.Matrix.{at, Net, Changed}
+use Rattle.distances.specs.Matrix.{at, Net, Changed, Adding, Added}
 use Rattle.chain.specs.declared.Bound.{Bound as Entry}
 use Rattle.chain.specs.Clash.{boundAt, Given}
+
+-- what `distances::add` asks and promises, of a bound
+abbrev pub AddingOf : ℕ → Bound → List ℤ → Type 0
+AddingOf n β d = Adding n (β .start) (β .end) (β .weight) d
+
+abbrev pub AddedOf : ℕ → Bound → List ℤ → List ℤ → Bool → Type 0
+AddedOf n β d d′ r = Added n (β .start) (β .end) (β .weight) d d′ r
 
 -- a closed matrix of n events, and a list whose first `to` bounds are between two of them
 pub record Trying (list : List Entry) (from to n : ℕ) (d : List ℤ) : Type 0 where

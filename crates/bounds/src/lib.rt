@@ -3,52 +3,25 @@ ghost use mathlib.Core.Path.{_≡_};
 ghost use mathlib.Core.List.{_++_};
 ghost use Prim.Native.Nat.{_+_, _*_, _-_, _≤_, _<_};
 ghost use lib.ListN.{length};
-ghost use lib.IntN.{pos, negℤ};
+ghost use lib.IntN.{negℤ};
 ghost use mir.Syntax.{w32};
 ghost use mir.Val.{SFits};
 ghost use Rattle.meaning.specs.Plan as M;
 ghost use Rattle.meaning.specs.Plan.{MOST-EVENTS, MOST-HORIZON, MOST-RECORDS};
 ghost use Rattle.meaning.specs.Bounds.{horizonUpper, horizonLower, horizonBounds, recordBounds};
 ghost use Rattle.meaning.specs.Faultless.{WithoutFault};
-ghost use Rattle.plan.specs.Held.{Holds};
-ghost use Rattle.distances.specs.Matrix.{Adding, Added};
+ghost use Rattle.plan.specs.Held.{Holds, Planned};
 ghost use Rattle.chain.specs.Clash.{boundOf, none, boundAt, listed};
-ghost use Rattle.bounds.specs.Listed.{Planned, Listed};
+ghost use Rattle.bounds.specs.Listed.{Listed};
 ghost use Rattle.bounds.specs.Entries.{upperEntry, lowerEntry, Front, Appending};
-ghost use Rattle.bounds.specs.Tried.{Trying, Tried};
+ghost use Rattle.bounds.specs.Tried.{AddingOf, AddedOf, Trying, Tried};
 use chain::Bound;
-use chain::MOST_BOUNDS;
 use plan::Plan;
 use plan::Record;
+use scope::HORIZON_CODES;
+use scope::MOST_BOUNDS;
 
-fn as_event(x: usize) -> u8
-    requires { ⌜ x < 256 ⌝ }
-    ensures { λ r. ⌜ r ≡ x ⌝ }
-{
-    x as u8
-}
-
-fn as_code(x: usize) -> u16
-    requires { ⌜ x < 65536 ⌝ }
-    ensures { λ r. ⌜ r ≡ x ⌝ }
-{
-    x as u16
-}
-
-fn as_weight(x: u32) -> i32
-    requires { ⌜ x ≤ MOST-HORIZON ⌝ }
-    ensures { λ r. ⌜ r ≡ pos x ⌝ }
-{
-    x as i32
-}
-
-// An event as a number.
-pub fn event_of(x: u8) -> usize
-    ensures { λ r. ⌜ r ≡ x ⌝ }
-{
-    x as usize
-}
-
+// What stands where there is no bound.
 fn nothing() -> Bound
     ensures { λ r. ⌜ r ≡ none ⌝ }
 {
@@ -67,9 +40,9 @@ fn horizon_upper(e: usize, h: u32) -> Bound
 {
     Bound {
         start: 0,
-        end: as_event(e),
-        code: as_code(512 + 2 * e),
-        weight: as_weight(h),
+        end: widths::to_u8(e),
+        code: widths::to_u16(HORIZON_CODES + 2 * e),
+        weight: widths::to_i32(widths::from_u32(h)),
     }
 }
 
@@ -78,9 +51,9 @@ fn horizon_lower(e: usize) -> Bound
     ensures { λ r. ⌜ boundOf r ≡ horizonLower e ⌝ }
 {
     Bound {
-        start: as_event(e),
+        start: widths::to_u8(e),
         end: 0,
-        code: as_code(513 + 2 * e),
+        code: widths::to_u16(HORIZON_CODES + 2 * e + 1),
         weight: 0,
     }
 }
@@ -93,7 +66,7 @@ fn record_upper(k: usize, r: Record) -> Bound
     Bound {
         start: r.a,
         end: r.b,
-        code: as_code(2 * k),
+        code: widths::to_u16(2 * k),
         weight: r.hi,
     }
 }
@@ -107,7 +80,7 @@ fn record_lower(k: usize, r: Record) -> Bound
     Bound {
         start: r.b,
         end: r.a,
-        code: as_code(2 * k + 1),
+        code: widths::to_u16(2 * k + 1),
         weight: down,
     }
 }
@@ -119,8 +92,9 @@ fn horizon_bounds(n: usize, h: u32) -> [Bound; MOST_BOUNDS]
 {
     let mut list = [nothing(); MOST_BOUNDS];
     for e in 1..n {
-        list[2 * e - 2] = horizon_upper(e, h);
-        list[2 * e - 1] = horizon_lower(e);
+        let i = 2 * (e - 1);
+        list[i] = horizon_upper(e, h);
+        list[i + 1] = horizon_lower(e);
     }
     list
 }
@@ -128,13 +102,15 @@ fn horizon_bounds(n: usize, h: u32) -> [Bound; MOST_BOUNDS]
 // The list with two bounds for each record behind the first `base`.
 fn with_records(list: [Bound; MOST_BOUNDS], base: usize, h: Plan) -> [Bound; MOST_BOUNDS]
     requires { ⌜ Appending list base h ⌝ }
-    ensures { λ r. ⌜ ((p : M.Plan) → Holds p h → Front r (base + 2 * length (p .records)) (listed list base ++ recordBounds 0 (p .records))) ⌝ }
+    ensures { λ r. ⌜ ((p : M.Plan) → Holds p h
+        → Front r (base + 2 * length (p .records)) (listed list base ++ recordBounds 0 (p .records))) ⌝ }
 {
     let mut all = list;
     for k in 0..h.count {
         let r = h.records[k];
-        all[base + 2 * k] = record_upper(k, r);
-        all[base + 2 * k + 1] = record_lower(k, r);
+        let i = base + 2 * k;
+        all[i] = record_upper(k, r);
+        all[i + 1] = record_lower(k, r);
     }
     all
 }
@@ -149,16 +125,18 @@ pub fn list_of(h: Plan) -> [Bound; MOST_BOUNDS]
 
 // One bound; false where it leaves no timetable.
 fn try_bound(b: Bound, d: &mut [i32], n: usize) -> bool
-    requires { ⌜ Adding n (boundOf b .start) (boundOf b .end) (boundOf b .weight) (now d) ⌝ }
-    ensures { λ r. ⌜ Added n (boundOf b .start) (boundOf b .end) (boundOf b .weight) (now (d .entry)) (now (d .exit)) r ⌝ }
+    requires { ⌜ AddingOf n (boundOf b) (now d) ⌝ }
+    ensures { λ r. ⌜ AddedOf n (boundOf b) (now (d .entry)) (now (d .exit)) r ⌝ }
 {
-    distances::add(d, n, event_of(b.start), event_of(b.end), b.weight)
+    let u = widths::from_u8(b.start);
+    let v = widths::from_u8(b.end);
+    distances::add(d, n, u, v, b.weight)
 }
 
 // Adds the bound at place k.
 fn try_at(list: &[Bound], k: usize, d: &mut [i32], n: usize) -> bool
-    requires { ⌜ (k < length (now list)) × Adding n (boundAt (now list) k .start) (boundAt (now list) k .end) (boundAt (now list) k .weight) (now d) ⌝ }
-    ensures { λ r. ⌜ Added n (boundAt (now (list .entry)) k .start) (boundAt (now (list .entry)) k .end) (boundAt (now (list .entry)) k .weight) (now (d .entry)) (now (d .exit)) r ⌝ }
+    requires { ⌜ (k < length (now list)) × AddingOf n (boundAt (now list) k) (now d) ⌝ }
+    ensures { λ r. ⌜ AddedOf n (boundAt (now (list .entry)) k) (now (d .entry)) (now (d .exit)) r ⌝ }
 {
     let b = list[k];
     try_bound(b, d, n)

@@ -30,7 +30,8 @@ listed-at (x ∷ xs) (suc m) zero l h = List·Memᴰ·head refl
 listed-at (x ∷ xs) (suc m) (suc k) l h = List·Memᴰ·tail (listed-at xs m k (omega arith) (omega arith))
 
 -- along a way whose bounds are noted at their starts the notes have its codes
-codes-are : (nx : List ℕ) {e a : ℕ} {bs : List Bound} → Leads e bs a → ((x : Bound) → List·Memᴰ x bs → Noted nx x) → codesFrom nx e (length bs) ≡ map (λ b. b .code) bs
+codes-are : (nx : List ℕ) {e a : ℕ} {bs : List Bound} → Leads e bs a → ((x : Bound) → List·Memᴰ x bs → Noted nx x)
+    → codesFrom nx e (length bs) ≡ map (λ b. b .code) bs
 codes-are nx stop f = refl
 codes-are nx (step {b = b} {bs = bs} l) f =
     let h = f b (List·Memᴰ·head refl) in
@@ -55,12 +56,12 @@ module _ (list : List Entry) (d : List ℤ) (n m : ℕ) (nx : List ℕ) (broken 
 
   -- the notes with bound m at its start
   abbrev pub closed : List ℕ
-  closed = note nx (β .start) (β .end) (β .code)
+  closed = note nx β
 
-  start-low : {u v : ℕ} {w : ℤ} → Fit n u v w → u < WIDTH
+  start-low : {x : Bound} → Fit n x → x .start < WIDTH
   start-low f = omega (arith, broken .table .events, f .start)
 
-  end-low : {u v : ℕ} {w : ℤ} → Fit n u v w → v < WIDTH
+  end-low : {x : Bound} → Fit n x → x .end < WIDTH
   end-low f = omega (arith, broken .table .events, f .end)
 
   module _ {nx₀ : List ℕ} (s : ℕ) (marked : Reached list d m (β .start) (β .end) nx₀ s nx) where
@@ -73,14 +74,14 @@ module _ (list : List Entry) (d : List ℤ) (n m : ℕ) (nx : List ℕ) (broken 
     pub closed-notes : Notes closed
     closed-notes =
         let f = broken .given .fit m (omega arith) in
-        notes-note nx (β .start) (β .end) (β .code) (start-low f) (end-low f) (marked .notes)
+        notes-note nx β (start-low f) (end-low f) (marked .notes)
 
     pub closed-path : Path closed (β .start) (β .end) (way-back .steps)
     closed-path = record {
       leads = way-back .leads;
       noted = λ x i.
           let p = way-back .each x i in
-          noted-other nx (β .start) (β .end) (β .code) x (p .apart) (p .noted);
+          noted-other nx β x (p .apart) (p .noted);
       simple = way-back .simple;
     }
 
@@ -116,10 +117,10 @@ module _ (list : List Entry) (d : List ℤ) (n m : ℕ) (nx : List ℕ) (broken 
       visited x i = events .all (x .start) (⊎-elim (λ p. Memᴰ·cast (ap (λ (y : Bound). y .start) p) (last-entered (way-back .leads)))
           (λ j. starts-on-way (way-back .leads) (x .start) (Memᴰ·map (λ y. y .start) j)) (List·Memᴰ·cases-cons i))
 
-      bound-fit : (x : Bound) → List·Memᴰ x round → Fit n (x .start) (x .end) (x .weight)
+      bound-fit : (x : Bound) → List·Memᴰ x round → Fit n x
       bound-fit x i =
           let p = place x i in
-          subst (λ (y : Bound). Fit n (y .start) (y .end) (y .weight)) (p .is) (broken .given .fit (p .place) (p .low))
+          subst (Fit n) (p .is) (broken .given .fit (p .place) (p .low))
 
       loop : Loop (λ x. List·Memᴰ x (listed list (m + 1))) (β .start) round
       loop = record {
@@ -150,12 +151,17 @@ module _ (list : List Entry) (d : List ℤ) (n m : ℕ) (nx : List ℕ) (broken 
       chain = parted .back ++ parted .front
 
       counted : ones r ≡ length chain
-      counted = omega (arith, events .count, ap length (parted .whole), length-append (parted .front) (parted .back), length-append (parted .back) (parted .front))
+      counted =
+          let f = parted .front in
+          let b = parted .back in
+          omega (arith, events .count, ap length (parted .whole), length-append f b, length-append b f)
 
       -- what was written by the notes from the least event on is the chain
-      pub found : (from : ℕ) (before after : List ℕ) → from ≡ first → after ≡ over (codesFrom closed from (ones r)) before → Found (listed list (m + 1)) before (ones r) after
+      pub found : (from : ℕ) (before after : List ℕ) → from ≡ first → after ≡ over (codesFrom closed from (ones r)) before
+          → Found (listed list (m + 1)) before (ones r) after
       found from before after e w =
           let turned = loop-turn loop parted in
+          let codes = codes-are closed (turned .closed) (λ x i. noted x (turned-back parted i)) in
           record {
             steps = chain;
             from = first;
@@ -167,5 +173,5 @@ module _ (list : List Entry) (d : List ℤ) (n m : ℕ) (nx : List ℕ) (broken 
                 let j = turned-back parted i in
                 lowest-least WIDTH r (x .start) (visited x j) (start-low (bound-fit x j));
             counted = counted;
-            written = w ∙ ap (λ (l : List ℕ). over l before) (ap₂ (codesFrom closed) e counted ∙ codes-are closed (turned .closed) (λ x i. noted x (turned-back parted i)));
+            written = w ∙ ap (λ (l : List ℕ). over l before) (ap₂ (codesFrom closed) e counted ∙ codes);
           }

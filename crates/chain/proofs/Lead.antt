@@ -35,12 +35,12 @@ place-of (b ∷ bs) (suc m) x (List·Memᴰ·tail i) =
 module _ (list : List Entry) (d : List ℤ) (m a : ℕ) where
   -- a way along tight bounds of the list
   along : {u : ℕ} {bs : List Bound} → Leads u bs a → ((x : Bound) → List·Memᴰ x bs → List·Memᴰ x (listed list m))
-      → ((x : Bound) → List·Memᴰ x bs → Tight d a (x .start) (x .end) (x .weight)) → Lead list d m a u
+      → ((x : Bound) → List·Memᴰ x bs → Tight d a x) → Lead list d m a u
   along stop f g = here refl
   along (step {b = b} l) f g =
       let p = place-of list m b (f b (List·Memᴰ·head refl)) in
       by (p .place) (p .low) (ap (λ (x : Bound). x .start) (sym (p .is)))
-      (subst (λ (x : Bound). Tight d a (x .start) (x .end) (x .weight)) (sym (p .is)) (g b (List·Memᴰ·head refl)))
+      (subst (Tight d a) (sym (p .is)) (g b (List·Memᴰ·head refl)))
       (subst (λ (x : Bound). Lead list d m a (x .end)) (sym (p .is)) (along l (λ x i. f x (List·Memᴰ·tail i)) (λ x i. g x (List·Memᴰ·tail i))))
 
   pub walk-lead : {n b : ℕ} → Closed n (at d) → b < n → a < n → Walk n (λ x. List·Memᴰ x (listed list m)) (at d) b a (at d b a) → Lead list d m a b

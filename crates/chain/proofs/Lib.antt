@@ -8,5 +8,6 @@ pub mod Codes
 pub mod Lead
 pub mod One
 pub mod Lent
+pub mod ByHand
 pub mod Searched
 pub mod Taken

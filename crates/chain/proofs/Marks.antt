@@ -13,7 +13,7 @@ use Rattle.eventset.specs.Sets.{WIDTH, member, putIn}
 use Rattle.eventset.proofs.Laws.{put-same, put-other, put-keeps, count-fresh}
 use Rattle.chain.specs.declared.Bound.{Bound as Entry}
 use Rattle.chain.specs.Clash.{boundAt, TightAt, Lead, here, by}
-use Rattle.chain.specs.Marks.{note, Notes, LookAt, kept, marked, Untouched, Marks, same, more, Scanned}
+use Rattle.chain.specs.Marks.{note, Notes, Look, kept, marked, Untouched, Marks, same, more, Scanned}
 use Rattle.chain.proofs.Notes.{length-note, entry-other, notes-note}
 
 -- a test is not both
@@ -54,15 +54,10 @@ module _ (list : List Entry) (d : List ℤ) (m a : ℕ) where
       u : ℕ
       u = boundAt list i .start
 
-      v : ℕ
-      v = boundAt list i .end
-
-      c : ℕ
-      c = boundAt list i .code
-
-      at : (k : ℕ) → member (putIn t u) (k / 2) ≡ member s (k / 2) → Untouched s nx t nt → Dec (k / 2 ≡ u) → getD (note nt u v c) k 0 ≡ getD nx k 0
+      at : (k : ℕ) → member (putIn t u) (k / 2) ≡ member s (k / 2) → Untouched s nx t nt → Dec (k / 2 ≡ u)
+          → getD (note nt (boundAt list i)) k 0 ≡ getD nx k 0
       at k h before (yes e) = absurd (not-both (marks-keep u g (ap (member s) (sym e) ∙ sym h ∙ ap (member (putIn t u)) e ∙ put-same t u)) z)
-      at k h before (no n) = entry-other nt u v c k n ∙ before .entry k (sym (put-other t u (k / 2) n) ∙ h)
+      at k h before (no n) = entry-other nt (boundAt list i) k n ∙ before .entry k (sym (put-other t u (k / 2) n) ∙ h)
 
   -- ---- a scan marks an event more while one that has a tight way to a is unmarked
 
@@ -90,7 +85,7 @@ module _ (list : List Entry) (d : List ℤ) (m a : ℕ) where
 
   pub under-step : (s : ℕ) (nx₀ : List ℕ) (i r : ℕ) (nx : List ℕ) (r′ : ℕ) (nx′ : List ℕ) → Under s nx₀ i r nx → i < m
       → boundAt list i .start < WIDTH → boundAt list i .end < WIDTH
-      → LookAt list i d a r nx r′ nx′ → Under s nx₀ (i + 1) r′ nx′
+      → Look d a (boundAt list i) r nx r′ nx′ → Under s nx₀ (i + 1) r′ nx′
   under-step s nx₀ i r nx r′ nx′ c l f g (kept p q h) = record {
     within = omega arith;
     long = ap length q ∙ c .long;
@@ -106,14 +101,12 @@ module _ (list : List Entry) (d : List ℤ) (m a : ℕ) where
           (ap (λ (x : ℕ). member r (boundAt list x .end)) (sym e) ∙ marks-keep (boundAt list k .end) (c .marks) o)
       at k b t o (no n) = c .part k (omega arith) t o
   under-step s nx₀ i r nx r′ nx′ c l f g (marked z v t p q) =
-      let u : ℕ = boundAt list i .start in
-      let o : ℕ = boundAt list i .end in
-      let b : ℕ = boundAt list i .code in
+      let β = boundAt list i in
       record {
         within = omega arith;
-        long = ap length q ∙ length-note nx u o b ∙ c .long;
+        long = ap length q ∙ length-note nx β ∙ c .long;
         marks = more r nx i (c .marks) l (omega (arith, c .notes .room)) z v t p q;
-        notes = subst Notes (sym q) (notes-note nx u o b f g (c .notes));
+        notes = subst Notes (sym q) (notes-note nx β f g (c .notes));
         part = λ k b g o. ap (λ (x : ℕ). member x (boundAt list k .start)) p ∙ at k b g o (ℕ-discrete k i);
       }
     where

@@ -10,37 +10,45 @@ use Rattle.eventset.specs.Sets.{WIDTH}
 use Rattle.meaning.specs.Bounds.{Bound}
 use Rattle.chain.specs.Marks.{endAt, codeAt, note, Notes, Noted}
 
-pub length-note : (nx : List ℕ) (u v c : ℕ) → length (note nx u v c) ≡ length nx
-length-note nx u v c = length-set (set nx (2 * u) v) (2 * u + 1) c ∙ length-set nx (2 * u) v
+module _ (nx : List ℕ) (β : Bound) where
+  -- the place of the bound's end, and the notes with that alone
+  abbrev here : ℕ
+  here = 2 * β .start
 
-pub end-same : (nx : List ℕ) (u v c : ℕ) → 2 * u + 1 < length nx → endAt (note nx u v c) u ≡ v
-end-same nx u v c l = getD-set-other (set nx (2 * u) v) (2 * u + 1) (2 * u) c 0 (λ e. omega (arith, e)) ∙ getD-set-same nx (2 * u) v 0 (omega arith)
+  abbrev half : List ℕ
+  half = set nx here (β .end)
 
-pub code-same : (nx : List ℕ) (u v c : ℕ) → 2 * u + 1 < length nx → codeAt (note nx u v c) u ≡ c
-code-same nx u v c l = getD-set-same (set nx (2 * u) v) (2 * u + 1) c 0 (omega (arith, length-set nx (2 * u) v))
+  pub length-note : length (note nx β) ≡ length nx
+  length-note = length-set half (here + 1) (β .code) ∙ length-set nx here (β .end)
 
--- entry k is that of event k / 2
-pub entry-other : (nx : List ℕ) (u v c k : ℕ) → (k / 2 ≡ u → ⊥) → getD (note nx u v c) k 0 ≡ getD nx k 0
-entry-other nx u v c k n =
-    getD-set-other (set nx (2 * u) v) (2 * u + 1) k c 0 (λ p. n (omega (arith, p)))
-    ∙ getD-set-other nx (2 * u) k v 0 (λ p. n (omega (arith, p)))
+  end-same : here + 1 < length nx → endAt (note nx β) (β .start) ≡ β .end
+  end-same l = getD-set-other half (here + 1) here (β .code) 0 (λ e. omega (arith, e)) ∙ getD-set-same nx here (β .end) 0 (omega arith)
 
-pub end-other : (nx : List ℕ) (u v c e : ℕ) → (e ≡ u → ⊥) → endAt (note nx u v c) e ≡ endAt nx e
-end-other nx u v c e n = entry-other nx u v c (2 * e) (λ p. n (omega (arith, p)))
+  code-same : here + 1 < length nx → codeAt (note nx β) (β .start) ≡ β .code
+  code-same l = getD-set-same half (here + 1) (β .code) 0 (omega (arith, length-set nx here (β .end)))
 
-pub code-other : (nx : List ℕ) (u v c e : ℕ) → (e ≡ u → ⊥) → codeAt (note nx u v c) e ≡ codeAt nx e
-code-other nx u v c e n = entry-other nx u v c (2 * e + 1) (λ p. n (omega (arith, p)))
+  -- entry k is that of event k / 2
+  pub entry-other : (k : ℕ) → (k / 2 ≡ β .start → ⊥) → getD (note nx β) k 0 ≡ getD nx k 0
+  entry-other k n =
+      getD-set-other half (here + 1) k (β .code) 0 (λ p. n (omega (arith, p)))
+      ∙ getD-set-other nx here k (β .end) 0 (λ p. n (omega (arith, p)))
 
--- a bound noted at another event stays noted
-pub noted-other : (nx : List ℕ) (u v c : ℕ) (x : Bound) → (x .start ≡ u → ⊥) → Noted nx x → Noted (note nx u v c) x
-noted-other nx u v c x n h = record { to = end-other nx u v c (x .start) n ∙ h .to; code = code-other nx u v c (x .start) n ∙ h .code }
+  end-other : (e : ℕ) → (e ≡ β .start → ⊥) → endAt (note nx β) e ≡ endAt nx e
+  end-other e n = entry-other (2 * e) (λ p. n (omega (arith, p)))
 
-pub noted-same : (nx : List ℕ) (x : Bound) → 2 * x .start + 1 < length nx → Noted (note nx (x .start) (x .end) (x .code)) x
-noted-same nx x l = record { to = end-same nx (x .start) (x .end) (x .code) l; code = code-same nx (x .start) (x .end) (x .code) l }
+  code-other : (e : ℕ) → (e ≡ β .start → ⊥) → codeAt (note nx β) e ≡ codeAt nx e
+  code-other e n = entry-other (2 * e + 1) (λ p. n (omega (arith, p)))
 
-pub notes-note : (nx : List ℕ) (u v c : ℕ) → u < WIDTH → v < WIDTH → Notes nx → Notes (note nx u v c)
-notes-note nx u v c h k t = record { room = omega (arith, length-note nx u v c, t .room); low = λ e. at e (ℕ-discrete e u) }
-  where
-    at : (e : ℕ) → Dec (e ≡ u) → endAt (note nx u v c) e < WIDTH
-    at e (yes p) = omega (arith, ap (endAt (note nx u v c)) p, end-same nx u v c (omega (arith, t .room)))
-    at e (no n) = omega (arith, end-other nx u v c e n, t .low e)
+  -- a bound noted at another event stays noted
+  pub noted-other : (x : Bound) → (x .start ≡ β .start → ⊥) → Noted nx x → Noted (note nx β) x
+  noted-other x n h = record { to = end-other (x .start) n ∙ h .to; code = code-other (x .start) n ∙ h .code }
+
+  pub noted-same : here + 1 < length nx → Noted (note nx β) β
+  noted-same l = record { to = end-same l; code = code-same l }
+
+  pub notes-note : β .start < WIDTH → β .end < WIDTH → Notes nx → Notes (note nx β)
+  notes-note h k t = record { room = omega (arith, length-note, t .room); low = λ e. at e (ℕ-discrete e (β .start)) }
+    where
+      at : (e : ℕ) → Dec (e ≡ β .start) → endAt (note nx β) e < WIDTH
+      at e (yes p) = omega (arith, ap (endAt (note nx β)) p, end-same (omega (arith, t .room)))
+      at e (no n) = omega (arith, end-other e n, t .low e)

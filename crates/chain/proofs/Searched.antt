@@ -28,8 +28,10 @@ taken i n small = holds (ltb i n) (lt→ltb i n small)
 pub left : (n : ℕ) → ltb n n ≡ false
 left n = fails (ltb n n) (λ a. lt-irrefl n (ltb→lt n n a))
 
-module _ {M : Type 1} (𝓤 : URA M) (H : Heap 𝓤) (A : Atoms 𝓤) (W : Given 𝓤 H A) (𝓣 : Tables 𝓤 H) (E : Env 𝓤 H) (turn : Body) (Left : Out → SProp 𝓤) (S : Type 0) (At : S → SProp 𝓤) (P : ℕ → S → Type 0)
-    (one : (t : ℕ) (s : S) (X : SProp 𝓤) → P t s → ((u : ℕ) (r : S) → u < t → P u r → ent 𝓤 (At r) X) → ent 𝓤 (At s) (Wp 𝓤 H (𝓣 .C) (𝓣 .Λ) E turn (afterTurn 𝓤 H X Left))) where
+module _ {M : Type 1} (𝓤 : URA M) (H : Heap 𝓤) (A : Atoms 𝓤) (W : Given 𝓤 H A) (𝓣 : Tables 𝓤 H) (E : Env 𝓤 H)
+    (turn : Body) (Left : Out → SProp 𝓤) (S : Type 0) (At : S → SProp 𝓤) (P : ℕ → S → Type 0)
+    (one : (t : ℕ) (s : S) (X : SProp 𝓤) → P t s → ((u : ℕ) (r : S) → u < t → P u r → ent 𝓤 (At r) X)
+    → ent 𝓤 (At s) (Wp 𝓤 H (𝓣 .C) (𝓣 .Λ) E turn (afterTurn 𝓤 H X Left))) where
   -- the invariant, where t is left to do
   abbrev Inv : ℕ → SProp 𝓤
   Inv t = ex 𝓤 (λ (s : S). guard 𝓤 (P t s) (At s))
@@ -41,7 +43,9 @@ module _ {M : Type 1} (𝓤 : URA M) (H : Heap 𝓤) (A : Atoms 𝓤) (W : Given
   at-inv t s p = via 𝓤 (guard 𝓤 (P t s) (At s)) (guardI 𝓤 (P t s) (At s) p) (exI 𝓤 (λ (r : S). guard 𝓤 (P t r) (At r)) s)
 
   at-below : (t u : ℕ) (r : S) → u < t → P u r → ent 𝓤 (At r) (Below t)
-  at-below t u r h p = via 𝓤 (Inv u) (at-inv u r p) (via 𝓤 (guard 𝓤 (u < t) (Inv u)) (guardI 𝓤 (u < t) (Inv u) h) (exI 𝓤 (λ (v : ℕ). guard 𝓤 (v < t) (Inv v)) u))
+  at-below t u r h p =
+      via 𝓤 (Inv u) (at-inv u r p)
+      (via 𝓤 (guard 𝓤 (u < t) (Inv u)) (guardI 𝓤 (u < t) (Inv u) h) (exI 𝓤 (λ (v : ℕ). guard 𝓤 (v < t) (Inv v)) u))
 
   turns : (t : ℕ) → ent 𝓤 (Inv t) (Wp 𝓤 H (𝓣 .C) (𝓣 .Λ) E turn (afterTurn 𝓤 H (Below t) Left))
   turns t = exE 𝓤 (λ (s : S). guard 𝓤 (P t s) (At s)) (λ s. guardE 𝓤 (P t s) (At s) (λ p. one t s (Below t) p (at-below t)))

@@ -37,22 +37,23 @@ module _ (list : List Entry) (d : List ℤ) (m a : ℕ) where
     pub each : (x : Bound) → List·Memᴰ x steps → Passed s nx x
 
   -- more marks change none of it
-  keep-passed : (s : ℕ) (nx : List ℕ) (u v c : ℕ) (x : Bound) → member s u ≡ false → Passed s nx x → Passed (putIn s u) (note nx u v c) x
-  keep-passed s nx u v c x z p = record {
+  keep-passed : (s : ℕ) (nx : List ℕ) (β x : Bound) → member s (β .start) ≡ false → Passed s nx x
+      → Passed (putIn s (β .start)) (note nx β) x
+  keep-passed s nx β x z p = record {
     place = p .place;
-    noted = noted-other nx u v c x (λ e. not-both (p .marked) (ap (member s) e ∙ z)) (p .noted);
-    marked = put-keeps s u (x .start) (p .marked);
+    noted = noted-other nx β x (λ e. not-both (p .marked) (ap (member s) e ∙ z)) (p .noted);
+    marked = put-keeps s (β .start) (x .start) (p .marked);
     apart = p .apart;
   }
 
-  keep : (s : ℕ) (nx : List ℕ) (u v c e : ℕ) → member s u ≡ false → Trail s nx e → Trail (putIn s u) (note nx u v c) e
-  keep s nx u v c e z t = record {
+  keep : (s : ℕ) (nx : List ℕ) (β : Bound) (e : ℕ) → member s (β .start) ≡ false → Trail s nx e → Trail (putIn s (β .start)) (note nx β) e
+  keep s nx β e z t = record {
     steps = t .steps;
     leads = t .leads;
     sums = t .sums;
     simple = t .simple;
-    events = λ f i. put-keeps s u f (t .events f i);
-    each = λ x i. keep-passed s nx u v c x z (t .each x i);
+    events = λ f i. put-keeps s (β .start) f (t .events f i);
+    each = λ x i. keep-passed s nx β x z (t .each x i);
   }
 
   -- a itself
@@ -70,13 +71,10 @@ module _ (list : List Entry) (d : List ℤ) (m a : ℕ) where
       only v (List·Memᴰ·head e) = ap (member s) e ∙ h
       only v (List·Memᴰ·tail i) = absurd (List·Memᴰ·not-nil i)
 
-  -- the notes with that of bound k
-  abbrev with-note : List ℕ → ℕ → List ℕ
-  with-note nx k = note nx (boundAt list k .start) (boundAt list k .end) (boundAt list k .code)
-
   -- the event that bound k marks
-  extend : (s : ℕ) (nx : List ℕ) (k : ℕ) → k < m → 2 * boundAt list k .start + 1 < length nx → member s (boundAt list k .start) ≡ false → member s a ≡ true → TightAt list d a k
-      → Trail s nx (boundAt list k .end) → Trail (putIn s (boundAt list k .start)) (with-note nx k) (boundAt list k .start)
+  extend : (s : ℕ) (nx : List ℕ) (k : ℕ) → k < m → 2 * boundAt list k .start + 1 < length nx
+      → member s (boundAt list k .start) ≡ false → member s a ≡ true → TightAt list d a k
+      → Trail s nx (boundAt list k .end) → Trail (putIn s (boundAt list k .start)) (note nx (boundAt list k)) (boundAt list k .start)
   extend s nx k l i z h g t = record {
     steps = β ∷ t .steps;
     leads = step (t .leads);
@@ -96,18 +94,19 @@ module _ (list : List Entry) (d : List ℤ) (m a : ℕ) where
       marked v (List·Memᴰ·head e) = ap (member (putIn s u)) e ∙ put-same s u
       marked v (List·Memᴰ·tail j) = put-keeps s u v (t .events v j)
 
-      passed : (x : Bound) → List·Memᴰ x (β ∷ t .steps) → Passed (putIn s u) (with-note nx k) x
+      passed : (x : Bound) → List·Memᴰ x (β ∷ t .steps) → Passed (putIn s u) (note nx β) x
       passed x (List·Memᴰ·head e) =
-          subst (λ (y : Bound). Passed (putIn s u) (with-note nx k) y) (sym e)
+          subst (λ (y : Bound). Passed (putIn s u) (note nx β) y) (sym e)
           (record {
             place = record { place = k; low = l; is = refl };
             noted = noted-same nx β i;
             marked = put-same s u;
             apart = λ q. not-both h (ap (member s) (sym q) ∙ z);
           })
-      passed x (List·Memᴰ·tail j) = keep-passed s nx u (β .end) (β .code) x z (t .each x j)
+      passed x (List·Memᴰ·tail j) = keep-passed s nx β x z (t .each x j)
 
-  pub trail : {s : ℕ} {nx₀ nx : List ℕ} (e : ℕ) → at d a a ≡ pos 0 → Marks list d m a (putIn 0 a) nx₀ s nx → member s e ≡ true → Trail s nx e
+  pub trail : {s : ℕ} {nx₀ nx : List ℕ} (e : ℕ) → at d a a ≡ pos 0 → Marks list d m a (putIn 0 a) nx₀ s nx → member s e ≡ true
+      → Trail s nx e
   trail {s} {nx = nx} e z (same p _) h = alone (ℕ-discrete e a)
     where
       alone : Dec (e ≡ a) → Trail s nx e
@@ -120,8 +119,9 @@ module _ (list : List Entry) (d : List ℤ) (m a : ℕ) where
       u : ℕ
       u = boundAt list k .start
 
-      found : Dec (e ≡ u) → ((f : ℕ) → member s f ≡ true → Trail s nx f) → member (putIn s u) e ≡ true → Trail (putIn s u) (with-note nx k) e
+      found : Dec (e ≡ u) → ((f : ℕ) → member s f ≡ true → Trail s nx f) → member (putIn s u) e ≡ true
+          → Trail (putIn s u) (note nx (boundAt list k)) e
       found (yes r) rest b =
-          subst (λ (x : ℕ). Trail (putIn s u) (with-note nx k) x) (sym r)
+          subst (λ (x : ℕ). Trail (putIn s u) (note nx (boundAt list k)) x) (sym r)
           (extend s nx k l i y (marks-keep list d m a a t (one-member a)) g (rest (boundAt list k .end) o))
-      found (no n) rest b = keep s nx u (boundAt list k .end) (boundAt list k .code) e y (rest e (sym (put-other s u e n) ∙ b))
+      found (no n) rest b = keep s nx (boundAt list k) e y (rest e (sym (put-other s u e n) ∙ b))

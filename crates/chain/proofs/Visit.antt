@@ -78,7 +78,8 @@ module _ (nx : List ℕ) (a b : ℕ) (steps : List Bound) where
       at (x ∷ xs) q w =
           let f = leads-first (q .leads) in
           let is : endAt nx e ≡ x .end = ap (endAt nx) (sym (f .0)) ∙ q .noted x (List·Memᴰ·head refl) .to in
-          let new : List·Memᴰ e (p .done) → ⊥ = λ i. distinct-apart (p .done) (e ∷ ends (x ∷ xs)) (subst (λ (l : List ℕ). T (distinct l)) (sym w) (p .simple)) e i (List·Memᴰ·head refl) in
+          let apart = subst (λ (l : List ℕ). T (distinct l)) (sym w) (p .simple) in
+          let new : List·Memᴰ e (p .done) → ⊥ = λ i. distinct-apart (p .done) (e ∷ ends (x ∷ xs)) apart e i (List·Memᴰ·head refl) in
           record {
             fresh = ap (λ (y : ℕ). member y e) (p .set) ∙ set-lacks (p .done) e new;
             then =
@@ -106,4 +107,5 @@ module _ (nx : List ℕ) (a b : ℕ) (steps : List Bound) where
             count = set-count (b ∷ ends steps) (p .simple) ∙ ap suc (length-map steps (λ x. x .end));
           })
       at (x ∷ xs) q w =
-          absurd (distinct-head e (ends (x ∷ xs)) (q .simple) (subst (λ (y : ℕ). List·Memᴰ y (ends (x ∷ xs))) (sym h) (last-entered (leads-first (q .leads) .1))))
+          let last = last-entered (leads-first (q .leads) .1) in
+          absurd (distinct-head e (ends (x ∷ xs)) (q .simple) (subst (λ (y : ℕ). List·Memᴰ y (ends (x ∷ xs))) (sym h) last))

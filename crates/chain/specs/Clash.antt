@@ -1,20 +1,20 @@
 -- A bound that fails against the distances of the bounds before it, and the chain that shows it.
 use mathlib.Core.Path.{_≡_}
 use mathlib.Core.List.{List, map, List·Memᴰ}
-use Prim.Native.Nat.{ℕ, _+_, _≤_, _<_}
+use Prim.Native.Nat.{ℕ, _+_, _-_, _*_, _≤_, _<_}
 use lib.Dec.{T}
 use lib.ListN.{length, getD, take}
 use lib.IntN.{ℤ, pos, negℤ, _+ℤ_}
 use lib.Signed.{_<ℤ_}
-use Rattle.meaning.specs.Plan.{MOST-EVENTS, MOST-HORIZON, MOST-END, Within}
+use Rattle.meaning.specs.Plan.{MOST-EVENTS, MOST-HORIZON, MOST-END, MOST-RECORDS, Within}
 use Rattle.meaning.specs.Bounds.{Bound, Leads, total, distinct, ends}
 use Rattle.meaning.specs.Outcome.{over}
 use Rattle.distances.specs.Matrix.{ENTRIES, at}
 use Rattle.chain.specs.declared.Bound.{Bound as Entry}
 
--- in code the constant of this name
+-- two bounds for each event other than 0, and two for each record; in code the constant of this name
 abbrev pub MOST-BOUNDS : ℕ
-MOST-BOUNDS = 640
+MOST-BOUNDS = 2 * (MOST-EVENTS - 1) + 2 * MOST-RECORDS
 
 -- an entry of the list as a bound of document 01
 abbrev pub boundOf : Entry → Bound
@@ -33,11 +33,11 @@ listed list m = map boundOf (take m list)
 
 -- ---- what is asked
 
--- a bound from u to v of weight w, between two of n events
-pub record Fit (n u v : ℕ) (w : ℤ) : Type 0 where
-  pub start : u < n
-  pub end : v < n
-  pub weight : Within (negℤ (pos MOST-END)) w (pos MOST-END)
+-- a bound between two of n events
+pub record Fit (n : ℕ) (β : Bound) : Type 0 where
+  pub start : β .start < n
+  pub end : β .end < n
+  pub weight : Within (negℤ (pos MOST-END)) (β .weight) (pos MOST-END)
 
 -- distances of n events
 pub record Table (d : List ℤ) (n : ℕ) : Type 0 where
@@ -49,19 +49,20 @@ pub record Table (d : List ℤ) (n : ℕ) : Type 0 where
 pub record Given (list : List Entry) (n m : ℕ) : Type 0 where
   pub long : length list ≡ MOST-BOUNDS
   pub inside : m ≤ MOST-BOUNDS
-  pub fit : (k : ℕ) → k < m → Fit n (boundAt list k .start) (boundAt list k .end) (boundAt list k .weight)
+  pub fit : (k : ℕ) → k < m → Fit n (boundAt list k)
 
--- the bound from u to v of weight w is tight towards a: a shortest way from u to a begins with it
-abbrev pub Tight : List ℤ → ℕ → ℕ → ℕ → ℤ → Type 0
-Tight d a u v w = at d u a ≡ w +ℤ at d v a
+-- a bound is tight towards a: a shortest way from its start to a begins with it
+abbrev pub Tight : List ℤ → ℕ → Bound → Type 0
+Tight d a β = at d (β .start) a ≡ β .weight +ℤ at d (β .end) a
 
 abbrev pub TightAt : List Entry → List ℤ → ℕ → ℕ → Type 0
-TightAt list d a k = Tight d a (boundAt list k .start) (boundAt list k .end) (boundAt list k .weight)
+TightAt list d a k = Tight d a (boundAt list k)
 
 -- from u there is a way to a along tight ones of the first m bounds
 pub data Lead (list : List Entry) (d : List ℤ) (m a : ℕ) : ℕ → Type 0 where
   here : {u : ℕ} → u ≡ a → Lead list d m a u
-  by : {u : ℕ} (k : ℕ) → k < m → u ≡ boundAt list k .start → TightAt list d a k → Lead list d m a (boundAt list k .end) → Lead list d m a u
+  by : {u : ℕ} (k : ℕ) → k < m → u ≡ boundAt list k .start → TightAt list d a k
+      → Lead list d m a (boundAt list k .end) → Lead list d m a u
 
 -- bound m cannot be kept with the first m, whose distances are d
 pub record Broken (list : List Entry) (d : List ℤ) (n m : ℕ) : Type 0 where

@@ -9,6 +9,7 @@ use lib.ListN.{length, getD, set}
 use lib.IntN.{ℤ}
 use lib.Count.{ones}
 use Rattle.eventset.specs.Sets.{WIDTH, member, putIn}
+use Rattle.meaning.specs.Plan.{MOST-EVENTS}
 use Rattle.meaning.specs.Bounds.{Bound, Leads, distinct, ends}
 use Rattle.meaning.specs.Outcome.{over}
 use Rattle.chain.specs.declared.Bound.{Bound as Entry}
@@ -16,9 +17,9 @@ use Rattle.chain.specs.Clash.{boundAt, Fit, Table, Given, Tight, TightAt
 
 -- ---- the notes
 
--- in code the constant of this name
+-- two numbers for each event; in code the constant of this name
 abbrev pub NOTES : ℕ
-NOTES = 128
+NOTES = 2 * MOST-EVENTS
 
 -- the note at event e
 abbrev pub endAt : List ℕ → ℕ → ℕ
@@ -27,9 +28,9 @@ endAt nx e = getD nx (2 * e) 0
 abbrev pub codeAt : List ℕ → ℕ → ℕ
 codeAt nx e = getD nx (2 * e + 1) 0
 
--- the notes with that of a bound from u to v with code c
-abbrev pub note : List ℕ → ℕ → ℕ → ℕ → List ℕ
-note nx u v c = set (set nx (2 * u) v) (2 * u + 1) c
+-- the notes with that of a bound at its start
+abbrev pub note : List ℕ → Bound → List ℕ
+note nx β = set (set nx (2 * β .start) (β .end)) (2 * β .start + 1) (β .code)
 
 -- notes that lead from event to event
 pub record Notes (nx : List ℕ) : Type 0 where
@@ -43,27 +44,21 @@ pub record Noted (nx : List ℕ) (x : Bound) : Type 0 where
 
 -- ---- one bound
 
-pub record Looking (d : List ℤ) (a u v : ℕ) (w : ℤ) : Type 0 where
+pub record Looking (d : List ℤ) (a : ℕ) (β : Bound) : Type 0 where
   pub n : ℕ
   pub table : Table d n
-  pub fit : Fit n u v w
+  pub fit : Fit n β
   pub to : a < n
 
 pub record Decided (P : Type 0) (r : Bool) : Type 0 where
   pub taken : r ≡ true → P
   pub left : r ≡ false → P → ⊥
 
--- what a look at a bound from u to v of weight w with code c does
-pub data Look (d : List ℤ) (a u v : ℕ) (w : ℤ) (c s : ℕ) (nx : List ℕ) (r : ℕ) (nx′ : List ℕ) : Type 0 where
-  kept : r ≡ s → nx′ ≡ nx → (Tight d a u v w → member s v ≡ true → member s u ≡ true) → Look d a u v w c s nx r nx′
-  marked : member s u ≡ false → member s v ≡ true → Tight d a u v w → r ≡ putIn s u → nx′ ≡ note nx u v c → Look d a u v w c s nx r nx′
-
--- the same of bound k of a list
-abbrev pub LookingAt : List Entry → ℕ → List ℤ → ℕ → Type 0
-LookingAt list k d a = Looking d a (boundAt list k .start) (boundAt list k .end) (boundAt list k .weight)
-
-abbrev pub LookAt : List Entry → ℕ → List ℤ → ℕ → ℕ → List ℕ → ℕ → List ℕ → Type 0
-LookAt list k d a s nx r nx′ = Look d a (boundAt list k .start) (boundAt list k .end) (boundAt list k .weight) (boundAt list k .code) s nx r nx′
+-- what a look at a bound does
+pub data Look (d : List ℤ) (a : ℕ) (β : Bound) (s : ℕ) (nx : List ℕ) (r : ℕ) (nx′ : List ℕ) : Type 0 where
+  kept : r ≡ s → nx′ ≡ nx → (Tight d a β → member s (β .end) ≡ true → member s (β .start) ≡ true) → Look d a β s nx r nx′
+  marked : member s (β .start) ≡ false → member s (β .end) ≡ true → Tight d a β → r ≡ putIn s (β .start) → nx′ ≡ note nx β
+      → Look d a β s nx r nx′
 
 -- ---- all bounds
 
@@ -77,7 +72,7 @@ module _ (list : List Entry) (d : List ℤ) (m a : ℕ) where
     same : {r : ℕ} {nx′ : List ℕ} → r ≡ s → nx′ ≡ nx → Marks s nx r nx′
     more : {r : ℕ} {nx′ : List ℕ} (t : ℕ) (nt : List ℕ) (k : ℕ) → Marks s nx t nt → k < m → 2 * boundAt list k .start + 1 < length nt
         → member t (boundAt list k .start) ≡ false → member t (boundAt list k .end) ≡ true → TightAt list d a k
-        → r ≡ putIn t (boundAt list k .start) → nx′ ≡ note nt (boundAt list k .start) (boundAt list k .end) (boundAt list k .code) → Marks s nx r nx′
+        → r ≡ putIn t (boundAt list k .start) → nx′ ≡ note nt (boundAt list k) → Marks s nx r nx′
 
   -- what may be scanned, and what is true after it
   pub record Scanning (nx : List ℕ) : Type 0 where
@@ -91,7 +86,8 @@ module _ (list : List Entry) (d : List ℤ) (m a : ℕ) where
     pub marks : Marks s nx r nx′
     pub notes : Notes nx′
     pub untouched : Untouched s nx r nx′
-    pub all : (k : ℕ) → k < m → TightAt list d a k → member s (boundAt list k .end) ≡ true → member r (boundAt list k .start) ≡ true
+    pub all : (k : ℕ) → k < m → TightAt list d a k → member s (boundAt list k .end) ≡ true
+        → member r (boundAt list k .start) ≡ true
 
   -- marking from a backwards until b is marked
   pub record Marking (b : ℕ) (nx : List ℕ) : Type 0 where

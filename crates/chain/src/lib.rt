@@ -4,13 +4,14 @@ ghost use Prim.Native.Nat.{ℕ, _+_, _*_, _≤_, _<_};
 ghost use lib.ListN.{length};
 ghost use lib.Count.{ones};
 ghost use Rattle.eventset.specs.Sets.{WIDTH, bitsOf};
-ghost use Rattle.chain.specs.Clash.{Tight, listed, Broken, Found};
-ghost use Rattle.chain.specs.Marks.{NOTES, note as noteIn, Looking, LookingAt, Decided, Look, LookAt, Scanning, Scanned, Marking, Reached, Visiting, Visited, Writing, Written};
+ghost use Rattle.chain.specs.Clash.{boundOf, boundAt, Tight, listed, Broken, Found};
+ghost use Rattle.chain.specs.Marks.{NOTES, note as noteIn, Looking, Decided, Look, Scanning, Scanned, Marking, Reached};
+ghost use Rattle.chain.specs.Marks.{Visiting, Visited, Writing, Written};
+use scope::MOST_BOUNDS;
+use scope::MOST_EVENTS;
 
-pub const MOST_BOUNDS: usize = 640;
-
-// The end and the code of a bound for each of 64 events.
-const NOTES: usize = 128;
+// The end and the code of a bound for each event.
+const NOTES: usize = 2 * MOST_EVENTS;
 
 // The event `end` comes at most `weight` after the event `start`.
 pub struct Bound {
@@ -20,50 +21,50 @@ pub struct Bound {
     pub weight: i32,
 }
 
-// Is the bound from u to v of weight w tight towards a? The distance from v to a is the sum of the weights along a way; this adds one more.
-fn tight(d: &[i32], u: usize, v: usize, w: i32, a: usize) -> bool
-    requires { ⌜ Looking (now d) a u v w ⌝ }
-    ensures { λ r. ⌜ Decided (Tight (now (d .entry)) a u v w) r ⌝ }
+// Is the bound tight towards a? The distance from its end to a is the sum of the weights along a way; this adds one more.
+fn tight(d: &[i32], b: Bound, a: usize) -> bool
+    requires { ⌜ Looking (now d) a (boundOf b) ⌝ }
+    ensures { λ r. ⌜ Decided (Tight (now (d .entry)) a (boundOf b)) r ⌝ }
 {
-    let sum = ticks::plus(w, distances::distance(d, v, a));
+    let u = widths::from_u8(b.start);
+    let v = widths::from_u8(b.end);
+    let sum = ticks::plus(b.weight, distances::distance(d, v, a));
     ticks::equal(distances::distance(d, u, a), sum)
 }
 
-// Notes at event u that a bound goes on from it to `end`, with its code.
-fn note(notes: &mut [u16], u: usize, end: u8, code: u16)
-    requires { ⌜ 2 * u + 1 < length (now notes) ⌝ }
-    ensures { λ _. ⌜ now (notes .exit) ≡ noteIn (now (notes .entry)) u end code ⌝ }
+// Notes a bound at its start: where it ends, and its code.
+fn note(notes: &mut [u16], b: Bound)
+    requires { ⌜ 2 * boundOf b .start + 1 < length (now notes) ⌝ }
+    ensures { λ _. ⌜ now (notes .exit) ≡ noteIn (now (notes .entry)) (boundOf b) ⌝ }
 {
-    notes[2 * u] = end as u16;
-    notes[2 * u + 1] = code;
+    let u = widths::from_u8(b.start);
+    notes[2 * u] = widths::to_u16(widths::from_u8(b.end));
+    notes[2 * u + 1] = b.code;
 }
 
 // Looks at a bound: where its end is marked, its start is not and it is tight, its start is marked and the bound noted there.
 fn look(
     d: &[i32],
-    start: u8,
-    end: u8,
-    weight: i32,
-    code: u16,
+    b: Bound,
     a: usize,
     seen: eventset::EventSet,
     notes: &mut [u16],
 ) -> eventset::EventSet
-    requires { ⌜ Looking (now d) a start end weight × (NOTES ≤ length (now notes)) ⌝ }
-    ensures { λ r. ⌜ Look (now (d .entry)) a start end weight code (bitsOf seen) (now (notes .entry)) (bitsOf r) (now (notes .exit)) ⌝ }
+    requires { ⌜ Looking (now d) a (boundOf b) × (NOTES ≤ length (now notes)) ⌝ }
+    ensures { λ r. ⌜ Look (now (d .entry)) a (boundOf b) (bitsOf seen) (now (notes .entry)) (bitsOf r) (now (notes .exit)) ⌝ }
 {
-    let u = start as usize;
-    let v = end as usize;
+    let u = widths::from_u8(b.start);
+    let v = widths::from_u8(b.end);
     if eventset::has(seen, u) {
         return seen;
     }
     if !eventset::has(seen, v) {
         return seen;
     }
-    if !tight(d, u, v, weight, a) {
+    if !tight(d, b, a) {
         return seen;
     }
-    note(notes, u, end, code);
+    note(notes, b);
     eventset::put(seen, u)
 }
 
@@ -76,11 +77,11 @@ fn look_at(
     seen: eventset::EventSet,
     notes: &mut [u16],
 ) -> eventset::EventSet
-    requires { ⌜ (k < length (now list)) × (LookingAt (now list) k (now d) a × (NOTES ≤ length (now notes))) ⌝ }
-    ensures { λ r. ⌜ LookAt (now (list .entry)) k (now (d .entry)) a (bitsOf seen) (now (notes .entry)) (bitsOf r) (now (notes .exit)) ⌝ }
+    requires { ⌜ (k < length (now list)) × (Looking (now d) a (boundAt (now list) k) × (NOTES ≤ length (now notes))) ⌝ }
+    ensures { λ r. ⌜ Look (now (d .entry)) a (boundAt (now (list .entry)) k) (bitsOf seen) (now (notes .entry)) (bitsOf r) (now (notes .exit)) ⌝ }
 {
     let b = list[k];
-    look(d, b.start, b.end, b.weight, b.code, a, seen, notes)
+    look(d, b, a, seen, notes)
 }
 
 // One scan of the first m bounds.
@@ -147,7 +148,7 @@ fn events(notes: &[u16], a: usize, b: usize) -> eventset::EventSet
     let mut e = b;
     while e != a {
         seen = eventset::put(seen, e);
-        e = notes[2 * e] as usize;
+        e = widths::from_u16(notes[2 * e]);
     }
     eventset::put(seen, e)
 }
@@ -162,7 +163,7 @@ fn write(notes: &[u16], from: usize, seen: eventset::EventSet, out: &mut [u16]) 
     let mut steps = 0;
     while steps < count {
         out[steps] = notes[2 * e + 1];
-        e = notes[2 * e] as usize;
+        e = widths::from_u16(notes[2 * e]);
         steps += 1;
     }
     steps
@@ -175,11 +176,11 @@ pub fn chain_of(list: [Bound; MOST_BOUNDS], m: usize, d: &[i32], out: &mut [u16]
     ensures { λ r. ⌜ Found (listed list (m + 1)) (now (out .entry)) r (now (out .exit)) ⌝ }
 {
     let last = list[m];
-    let a = last.start as usize;
-    let b = last.end as usize;
+    let a = widths::from_u8(last.start);
+    let b = widths::from_u8(last.end);
     let mut notes = [0; NOTES];
     mark(list, m, d, a, b, &mut notes);
-    note(&mut notes, a, last.end, last.code);
+    note(&mut notes, last);
     let seen = events(&notes, a, b);
     let from = eventset::lowest(seen);
     write(&notes, from, seen, out)

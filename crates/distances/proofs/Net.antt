@@ -10,8 +10,9 @@ use lib.Signed.{leZ, _≤ℤ_}
 use Rattle.ticks.proofs.Ticks.{ticks, neg, sum}
 use Rattle.meaning.specs.Plan.{Within, MOST-END, MOST-HORIZON}
 use Rattle.meaning.specs.Distances.{added, Closed, Keeps, Adds, Below, horizonOnly}
-use Rattle.meaning.proofs.Distances.{adds-closed, adds-below, adds-keeps, adds-old, adds-new, start-closed, start-below, start-means, means-start, same-set, Horizon}
-use Rattle.distances.specs.Matrix.{STRIDE, at, meeting, Net, Changed, Started, Adding, Added, Narrowing, Cut, Narrowed}
+use Rattle.meaning.proofs.Distances.{adds-closed, adds-below, adds-keeps, adds-old, adds-new}
+use Rattle.meaning.proofs.Distances.{start-closed, start-below, start-means, means-start, same-set, Horizon}
+use Rattle.distances.specs.Matrix.{STRIDE, at, meeting, Net, Changed, Started, Adding, Narrowing, Cut, Narrowed}
 
 -- ---- a matrix is as its entries are
 same-closed : {n : ℕ} {D E : ℕ → ℕ → ℤ} → Closed n D → ((i j : ℕ) → i < n → j < n → E i j ≡ D i j) → Closed n E
@@ -44,7 +45,7 @@ started-means {n} {H} {d} s some few =
     ((λ k. start-means some (same-set all k)), (λ k. same-set (λ i j p q. sym (all i j p q)) (means-start k)))
 
 -- ---- one more bound
-pub changed-adds : {n : ℕ} {d d′ : List ℤ} (a b : ℕ) (w : ℤ) → Changed n n d d′ (added (at d) a b w) → Adds n a b w (at d) (at d′)
+changed-adds : {n : ℕ} {d d′ : List ℤ} (a b : ℕ) (w : ℤ) → Changed n n d d′ (added (at d) a b w) → Adds n a b w (at d) (at d′)
 changed-adds a b w r = record { at = λ {i} {j} p q. r .done i j p q }
 
 -- closed distances with no entry above H, written over such a matrix, give such a matrix
@@ -63,13 +64,6 @@ pub changed-net : {n H : ℕ} {d d′ : List ℤ} (a b : ℕ) (w : ℤ) → Net 
 changed-net {n} {d = d} a b w net la lb ok r =
     let e : Adds n a b w (at d) (added (at d) a b w) = record { at = λ p q. refl } in
     written-net net r (adds-closed (net .closed) la lb e ok) (adds-below (net .closed) la lb e (net .below))
-
-module _ {n a b : ℕ} {w : ℤ} {d d′ : List ℤ} {r : Bool} (asked : Adding n a b w d) (h : Added n a b w d d′ r) where
-  pub added-means : r ≡ true → (t : ℕ → ℤ) → Keeps n (at d′) t ↔ (Keeps n (at d) t × (t b ≤ℤ (t a +ℤ w)))
-  added-means e t =
-      let c = asked .net .closed in
-      let s = changed-adds a b w (h .taken e) in
-      ((λ k. (adds-old c (asked .from) (asked .to) s k, adds-new c (asked .from) (asked .to) s k)), (λ k. adds-keeps c (asked .from) (asked .to) s (k .0) (k .1)))
 
 -- ---- a question
 -- the run meets what is left
@@ -90,7 +84,8 @@ met D a b lo hi = go (leZ lo hi) (leZ lo (D a b)) (leZ (negℤ (D b a)) hi) refl
 missed : (D : ℕ → ℕ → ℤ) (a b : ℕ) (lo hi x : ℤ) → meeting D a b lo hi ≡ false → x ≤ℤ D a b → negℤ (D b a) ≤ℤ x → Within lo x hi → ⊥
 missed D a b lo hi x = go (leZ lo hi) (leZ lo (D a b)) (leZ (negℤ (D b a)) hi) refl refl refl
   where
-    go : (u v z : Bool) → leZ lo hi ≡ u → leZ lo (D a b) ≡ v → leZ (negℤ (D b a)) hi ≡ z → (u && (v && z)) ≡ false → x ≤ℤ D a b → negℤ (D b a) ≤ℤ x → Within lo x hi → ⊥
+    go : (u v z : Bool) → leZ lo hi ≡ u → leZ lo (D a b) ≡ v → leZ (negℤ (D b a)) hi ≡ z → (u && (v && z)) ≡ false
+        → x ≤ℤ D a b → negℤ (D b a) ≤ℤ x → Within lo x hi → ⊥
     go true true true e f g m p q k = absurd (true≢false m)
     go true true false e f g m p q k = omega (ticks, neg (D b a), k .below)
     go true false z e f g m p q k = omega (ticks, k .above)
@@ -106,7 +101,13 @@ module _ {n a b : ℕ} {lo hi : ℤ} {d : List ℤ} (asked : Narrowing n a b lo 
 
   pub upper-asked : Adding n a b hi d
   upper-asked =
-      record { horizon = asked .horizon; net = asked .net; from = asked .from; to = asked .to; weight = record { above = omega (ticks, m .some, asked .low); below = asked .high } }
+      record {
+        horizon = asked .horizon;
+        net = asked .net;
+        from = asked .from;
+        to = asked .to;
+        weight = record { above = omega (ticks, m .some, asked .low); below = asked .high };
+      }
 
   pub lower-asked : {d₁ : List ℤ} → Changed n n d d₁ (added (at d) a b hi) → Adding n b a (negℤ lo) d₁
   lower-asked r =
@@ -147,4 +148,5 @@ module _ {n a b : ℕ} {lo hi : ℤ} {d d′ : List ℤ} {r : Bool} (asked : Nar
 
   pub narrowed-none : r ≡ false → (t : ℕ → ℤ) → Keeps n (at d) t → Within lo (t b -ℤ t a) hi → ⊥
   narrowed-none e t k =
-      missed (at d) a b lo hi (t b -ℤ t a) (sym (h .answer) ∙ e) (omega (ticks, k .kept (asked .from) (asked .to))) (omega (ticks, k .kept (asked .to) (asked .from), neg (at d b a), sum (t b) (negℤ (t a)), neg (t a)))
+      missed (at d) a b lo hi (t b -ℤ t a) (sym (h .answer) ∙ e) (omega (ticks, k .kept (asked .from) (asked .to)))
+      (omega (ticks, k .kept (asked .to) (asked .from), neg (at d b a), sum (t b) (negℤ (t a)), neg (t a)))

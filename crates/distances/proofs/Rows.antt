@@ -38,7 +38,8 @@ rows-none =
       rest = λ k l. refl;
     }
 
-pub rows-more : {d d′ d″ : List ℤ} {m n : ℕ} {f : ℕ → ℕ → ℤ} → n ≤ STRIDE → Changed m n d d′ f → Swept (pos 0) d′ d″ (m * STRIDE) n (f m) → Changed (m + 1) n d d″ f
+pub rows-more : {d d′ d″ : List ℤ} {m n : ℕ} {f : ℕ → ℕ → ℤ} → n ≤ STRIDE → Changed m n d d′ f →
+    Swept (pos 0) d′ d″ (m * STRIDE) n (f m) → Changed (m + 1) n d d″ f
 rows-more {d} {d′} {d″} {m} {n} {f} le r s =
     record {
       long = s .long ∙ r .long;
@@ -143,5 +144,6 @@ beside-changed : {n : ℕ} {d d′ : List ℤ} (f : ℕ → ℕ → ℤ) → Bes
 beside-changed f x e = record { long = x .long; done = e; beside = x .beside; rest = x .rest }
 
 -- two results that are the same where they are in use are the same
-pub one-matrix : {n : ℕ} {d d₁ d₂ : List ℤ} → length d ≡ ENTRIES → n ≤ STRIDE → Beside n d d₁ → Beside n d d₂ → ((i j : ℕ) → i < n → j < n → at d₁ i j ≡ at d₂ i j) → d₁ ≡ d₂
+pub one-matrix : {n : ℕ} {d d₁ d₂ : List ℤ} → length d ≡ ENTRIES → n ≤ STRIDE → Beside n d d₁ → Beside n d d₂ →
+    ((i j : ℕ) → i < n → j < n → at d₁ i j ≡ at d₂ i j) → d₁ ≡ d₂
 one-matrix {d₂ = d₂} size few x y e = one-result size few (beside-changed (at d₂) x e) (beside-changed (at d₂) y (λ i j p q. refl))

@@ -58,7 +58,9 @@ pub record Written {A : Type 0} (z : A) (d d′ : List A) (n : ℕ) (f : ℕ →
 pub swept-written : {A : Type 0} {z : A} {d d′ : List A} {n : ℕ} {f : ℕ → A} → Swept z d d′ 0 n f → n ≤ length d → Written z d d′ n f
 swept-written {z = z} {d} {d′} {n} s room =
     let long : length (take n d′) ≡ n = length-take-le n d′ (omega (arith, s .long)) in
-    let rest : drop n d′ ≡ drop n d = ext-getD z (drop n d′) (drop n d) (simp (length-drop, s .long)) (λ i l. getD-drop n d′ i z ∙ s .above (n + i) (omega arith) ∙ sym (getD-drop n d i z)) in
+    let rest : drop n d′ ≡ drop n d =
+    ext-getD z (drop n d′) (drop n d) (simp (length-drop, s .long))
+    (λ i l. getD-drop n d′ i z ∙ s .above (n + i) (omega arith) ∙ sym (getD-drop n d i z)) in
     record {
       front = take n d′;
       count = long;

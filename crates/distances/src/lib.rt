@@ -9,8 +9,7 @@ ghost use Rattle.distances.specs.Matrix.{STRIDE, at, meeting, Place, Sta
 ghost use Rattle.distances.specs.Sweep.{Swept};
 ghost use Rattle.distances.specs.Rows.{Lowering, Copying, Inserting, lowered};
 
-// MOST-EVENTS of the meaning: the proofs hold the two to each other.
-const STRIDE: usize = 64;
+const STRIDE: usize = scope::MOST_EVENTS;
 
 const ENTRIES: usize = STRIDE * STRIDE;
 
@@ -19,7 +18,8 @@ pub fn distance(d: &[i32], i: usize, j: usize) -> i32
     requires { ⌜ Place i j (now d) ⌝ }
     ensures { λ r. ⌜ r ≡ at (now (d .entry)) i j ⌝ }
 {
-    d[i * STRIDE + j]
+    let place = i * STRIDE + j;
+    d[place]
 }
 
 // What row i and column j hold where only the horizon h is known.
@@ -33,7 +33,7 @@ fn start_value(i: usize, j: usize, h: u32) -> i32
     if i == j {
         return 0;
     }
-    h as i32
+    widths::to_i32(widths::from_u32(h))
 }
 
 // The matrix of all timetables within the horizon h.
@@ -78,7 +78,8 @@ fn copy_row(d: &[i32], i: usize, n: usize, row: &mut [i32])
 // Row i with the bound from a to b of weight w; via is row b. A row that needs no change is passed over.
 fn insert_row(d: &mut [i32], i: usize, n: usize, a: usize, b: usize, w: i32, via: &[i32])
     requires { ⌜ Inserting (now d) i n a b w (now via) ⌝ }
-    ensures { λ _. ⌜ Swept (pos 0) (now (d .entry)) (now (d .exit)) (i * STRIDE) n (lowered (now (d .entry)) i (now (via .entry)) (at (now (d .entry)) i a +ℤ w)) ⌝ }
+    ensures { λ _. ⌜ Swept (pos 0) (now (d .entry)) (now (d .exit)) (i * STRIDE) n
+        (lowered (now (d .entry)) i (now (via .entry)) (at (now (d .entry)) i a +ℤ w)) ⌝ }
 {
     let s = ticks::plus(distance(d, i, a), w);
     if ticks::less(s, distance(d, i, b)) {

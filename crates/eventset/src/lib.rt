@@ -35,18 +35,12 @@ pub fn has(s: EventSet, e: usize) -> bool
 pub fn count(s: EventSet) -> usize
     ensures { λ r. ⌜ r ≡ ones (bitsOf s) ⌝ }
 {
-    wide(u64::count_ones(s.bits))
+    widths::from_u32(u64::count_ones(s.bits))
 }
 
 // The least that is in it; the width for the empty set.
 pub fn lowest(s: EventSet) -> usize
     ensures { λ r. ⌜ r ≡ trailingZeros WIDTH (bitsOf s) ⌝ }
 {
-    wide(u64::trailing_zeros(s.bits))
-}
-
-fn wide(x: u32) -> usize
-    ensures { λ r. ⌜ r ≡ x ⌝ }
-{
-    x as usize
+    widths::from_u32(u64::trailing_zeros(s.bits))
 }

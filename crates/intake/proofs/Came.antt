@@ -12,8 +12,6 @@ use lib.ListN.{length, length-take, length-drop}
 use lib.IntN.{ℤ, pos, negsuc, natAbs}
 use lib.Dec.{T}
 use lib.Signed.{ltZ, nonNeg}
-use mir.Syntax.{w64}
-use mir.Val.{SFits, Fits}
 use Rattle.libc.specs.Io.{Moved}
 use Rattle.intake.specs.declared.Next.{Next}
 use Rattle.intake.specs.declared.Next.the-variants as N
@@ -51,10 +49,10 @@ pub next-failed : (n : ℕ) (got : ℤ) (interrupted : Bool) → ltZ got (pos 0)
 next-failed n (pos k) b h = absurd (not-suc-le-zero (ltb-true k 0 h))
 next-failed n (negsuc k) b h = refl
 
--- a count fits the number that it is cast to
-pub answer-fits : (got : ℤ) → SFits w64 got → ltZ (pos 0) got ≡ true → T (nonNeg got) × Fits w64 (natAbs got)
-answer-fits (pos k) f h = (tt, record { fits = omega (arith, f .sfits) })
-answer-fits (negsuc k) f h = absurd (false≢true h)
+-- a count is not below zero
+pub answer-plain : (got : ℤ) → ltZ (pos 0) got ≡ true → T (nonNeg got)
+answer-plain (pos k) h = tt
+answer-plain (negsuc k) h = absurd (false≢true h)
 
 pub answer-counts : (got : ℤ) → ltZ (pos 0) got ≡ true → natAbs got ≡ gives got
 answer-counts (pos k) h = refl

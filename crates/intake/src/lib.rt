@@ -34,7 +34,7 @@ fn decide(n: usize, got: isize, interrupted: bool) -> Next
         return Next::Failed;
     }
     if got > 0 {
-        return Next::On(n + got as usize);
+        return Next::On(n + widths::from_isize(got));
     }
     Next::Whole(n)
 }

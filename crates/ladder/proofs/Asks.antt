@@ -26,6 +26,13 @@ least lo m c l h = omega (ticks, sum lo (pos c))
 more : (m lo : ℤ) (k : ℕ) → m ≤ℤ lo → m ≤ℤ (lo +ℤ pos k)
 more m lo k h = omega ticks
 
+-- a distance within a wish's levels fits, and so does the one before it
+pub reach-fits : {lo : ℤ} {k : ℕ} → Reach lo k → SFits w32 (lo +ℤ pos k)
+reach-fits r = omega (ticks, r .ends .above, r .ends .below, r .few)
+
+pub before-fits : {lo : ℤ} {k : ℕ} → Reach lo k → SFits w32 ((lo +ℤ pos k) -ℤ pos 1)
+before-fits {lo} {k} r = omega (ticks, r .ends .above, r .ends .below, r .few, sum lo (pos k))
+
 module _ {n : ℕ} {x : Record} {held : List ℕ} {y : ℕ} {d : List ℤ} (a : Asking n x held y d) where
   ends : Within (negℤ (pos MOST-END)) (x .lo) (pos MOST-END)
   ends = record { above = a .low; below = least (x .lo) (pos MOST-END) (x .count) (a .some) (a .high) }

@@ -19,13 +19,12 @@ use Rattle.meaning.proofs.Stands.{stands-same, stands-earliest}
 use Rattle.meaning.proofs.Solve.{all-left}
 use Rattle.meaning.proofs.Wishes.{next-wish, next-rule, wishes-few, wish-below, all-wishes, climb-start, climb-best, climb-levels}
 use Rattle.plan.specs.declared.Plan.{Plan}
-use Rattle.plan.specs.Held.{rowOf, blank, Holds}
+use Rattle.plan.specs.Held.{rowOf, blank, Holds, Planned}
 use Rattle.plan.proofs.Use.{rowAt, held-row}
 use Rattle.distances.specs.Matrix.{at}
 use Rattle.distances.specs.Sweep.{Swept}
 use Rattle.distances.proofs.Rows.{beside-same}
 use Rattle.distances.proofs.Sweep.{swept-none, swept-more, swept-written}
-use Rattle.bounds.specs.Listed.{Planned}
 use Rattle.ladder.specs.Memory.{InMemory}
 use Rattle.ladder.specs.Climbed.{Ready, Climbed}
 use Rattle.ladder.specs.Climbing.{RecordCleared, GradesCleared, Stage, Grading, Graded, ToClimb}

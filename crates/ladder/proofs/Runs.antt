@@ -6,10 +6,9 @@ use native.Mathlib.Decide.{ℕ-discrete, decLt}
 use native.Mathlib.Omega.{arith}
 use lib.ListN.{length, getD}
 use lib.Seq.{slice, length-slice}
-use borrow.Author.Count.{below-more}
 use Rattle.meaning.specs.Run.{Run}
 use Rattle.meaning.proofs.Peaks.{past-end}
-use Rattle.text.proofs.Slices.{slice-at}
+use Rattle.meaning.proofs.Slices.{slice-at}
 use Rattle.plan.specs.declared.Record.{Record}
 use Rattle.ladder.specs.Climbing.{Under, RunFirst, RunPast, levelsAt}
 
@@ -18,19 +17,14 @@ use Rattle.ladder.specs.Climbing.{Under, RunFirst, RunPast, levelsAt}
 pub under-none : {held : List ℕ} {y : ℕ} (i : ℕ) → Under held i i y
 under-none i = record { each = λ k l m. omega arith }
 
-pub under-up : {held : List ℕ} {at i y : ℕ} → Under held at i y → getD held i 0 < y → Under held at (i + 1) y
-under-up {held} {at} {i} {y} u low =
-    record { each = λ k l m. below-more (λ k. at ≤ k → getD held k 0 < y) i (λ k m l. u .each k l m) (λ _. low) k m l }
-
-pub under-down : {held : List ℕ} {e end y : ℕ} → Under held e end y → getD held (e - 1) 0 < y → Under held (e - 1) end y
-under-down {held} {e} {end} {y} u low = record { each = λ k l m. go k l m (ℕ-discrete k (e - 1)) }
+-- the level at place k joins those of a part, at its front or at its end
+pub under-more : {held : List ℕ} {from to from′ to′ y : ℕ} (k : ℕ) → Under held from to y → getD held k 0 < y →
+    ((j : ℕ) → from′ ≤ j → j < to′ → (j ≡ k → ⊥) → (from ≤ j) × (j < to)) → Under held from′ to′ y
+under-more {held} {from′ = from′} {to′} {y} k u low other = record { each = λ j l m. go j l m (ℕ-discrete j k) }
   where
-    go : (k : ℕ) → e - 1 ≤ k → k < end → Dec (k ≡ e - 1) → getD held k 0 < y
-    go k l m (yes q) = rw q low
-    go k l m (no n) = u .each k (omega arith) m
-
-pub under-part : {held : List ℕ} {from to from′ to′ y : ℕ} → Under held from to y → from ≤ from′ → to′ ≤ to → Under held from′ to′ y
-under-part u l m = record { each = λ k p q. u .each k (omega arith) (omega arith) }
+    go : (j : ℕ) → from′ ≤ j → j < to′ → Dec (j ≡ k) → getD held j 0 < y
+    go j l m (yes q) = rw q low
+    go j l m (no n) = let o = other j l m n in u .each j (o .0) (o .1)
 
 -- ---- the levels of one wish, in the area of all
 

@@ -3,23 +3,16 @@ ghost use mathlib.Core.Path.{_≡_};
 ghost use Prim.Native.Nat.{_+_, _-_, _≤_, _<_};
 ghost use lib.Dec.{eqb};
 ghost use lib.ListN.{length, getD};
-ghost use lib.IntN.{pos, _+ℤ_, _-ℤ_};
+ghost use lib.IntN.{pos, _+ℤ_};
 ghost use Rattle.meaning.specs.Plan as M;
 ghost use Rattle.meaning.specs.Plan.{MOST-RECORDS};
-ghost use Rattle.bounds.specs.Listed.{Planned};
+ghost use Rattle.plan.specs.Held.{Planned};
 ghost use Rattle.ladder.specs.Climbed.{Ready, Climbed};
 ghost use Rattle.ladder.specs.Climbing.{Span, RunFirst, RunPast, Reach, Asking, Asked, WishClimbed, RecordAsking, RecordClimbed};
 ghost use Rattle.ladder.specs.Climbing.{Grading, Graded, RecordCleared, GradesCleared, ToClimb};
 use plan::Plan;
 use plan::Record;
-
-const TOP_GRADE: u8 = plan::TOP_LEVEL as u8;
-
-fn place_of(x: u16) -> usize
-    ensures { λ r. ⌜ r ≡ x ⌝ }
-{
-    x as usize
-}
+use scope::TOP_LEVEL;
 
 // The place of the first level of at least y from at up to end; end where there is none.
 fn run_first(held: &[u8], at: usize, end: usize, y: u8) -> usize
@@ -33,7 +26,7 @@ fn run_first(held: &[u8], at: usize, end: usize, y: u8) -> usize
         }
         i += 1;
     }
-    end
+    i
 }
 
 // One past the last such level, looked for from the end inward; at where there is none.
@@ -48,7 +41,7 @@ fn run_past(held: &[u8], at: usize, end: usize, y: u8) -> usize
         }
         e -= 1;
     }
-    at
+    e
 }
 
 // The distance of the k-th level of a wish that begins at lo.
@@ -56,15 +49,7 @@ fn distance_of(lo: i32, k: usize) -> i32
     requires { ⌜ Reach lo k ⌝ }
     ensures { λ r. ⌜ r ≡ lo +ℤ pos k ⌝ }
 {
-    lo + (k as i32)
-}
-
-// The distance before it.
-fn distance_before(lo: i32, k: usize) -> i32
-    requires { ⌜ Reach lo k ⌝ }
-    ensures { λ r. ⌜ r ≡ (lo +ℤ pos k) -ℤ pos 1 ⌝ }
-{
-    distance_of(lo, k) - 1
+    lo + widths::to_i32(k)
 }
 
 // Whether some timetable left has the wish at grade y or more; if so only those are left.
@@ -72,14 +57,14 @@ fn ask(d: &mut [i32], n: usize, r: Record, held: &[u8], y: u8) -> bool
     requires { ⌜ Asking n r (now held) y (now d) ⌝ }
     ensures { λ s. ⌜ Asked n r (now (held .entry)) y (now (d .entry)) (now (d .exit)) s ⌝ }
 {
-    let a = bounds::event_of(r.a);
-    let b = bounds::event_of(r.b);
-    let at = place_of(r.first);
-    let end = at + place_of(r.count);
+    let a = widths::from_u8(r.a);
+    let b = widths::from_u8(r.b);
+    let at = widths::from_u16(r.first);
+    let end = at + widths::from_u16(r.count);
     let first = run_first(held, at, end, y) - at;
     let past = run_past(held, at, end, y) - at;
     let lo = distance_of(r.lo, first);
-    let hi = distance_before(r.lo, past);
+    let hi = distance_of(r.lo, past) - 1;
     distances::narrow(d, n, a, b, lo, hi)
 }
 
@@ -171,7 +156,7 @@ pub fn climb(d: &mut [i32], h: Plan, held: &[u8], levels: &mut [u8]) -> usize
         → Climbed p (now (d .entry)) (now (d .exit)) (now (levels .entry)) (now (levels .exit)) r) ⌝ }
 {
     let count = clear_grades(h, levels);
-    for y in 1..=TOP_GRADE {
+    for y in 1..=TOP_LEVEL {
         climb_grade(d, h, held, y, levels);
     }
     count

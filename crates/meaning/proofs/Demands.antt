@@ -24,6 +24,7 @@ use Rattle.meaning.proofs.Refusals.{refused-number}
 use Rattle.meaning.proofs.Fair.{best-fair, best-pareto, best-highest}
 use Rattle.meaning.proofs.Chains.{chain-excludes}
 use Rattle.meaning.proofs.Promises.{some-outcome, one-promise}
+use Rattle.meaning.specs.Numbers.{AREA-TOO-SHORT}
 
 -- ---- written over the front of an area
 
@@ -60,7 +61,7 @@ data Came (c : Call) : Type 0 where
 came : (c : Call) → Kept c → Came c
 came c k = go (longEnough (c .before)) refl (read (c .text)) refl (k .outcome) (k .right) (k .numbered) (k .placed) (k .writes)
   where
-    go : (b : Bool) → longEnough (c .before) ≡ b → (r : Reading) → read (c .text) ≡ r → (o : Outcome) → Right (cond b r (refused 7 0)) o →
+    go : (b : Bool) → longEnough (c .before) ≡ b → (r : Reading) → read (c .text) ≡ r → (o : Outcome) → Right (cond b r (refused AREA-TOO-SHORT 0)) o →
         c .number ≡ number o → c .place ≡ place o → c .after ≡ written o (c .before) → Came c
     go true l (plan p) e o x n q w = on-plan p (record { reads = e; long = l })
     go true l (refused m i) e (solved ts ls) x n q w = absurd x
@@ -87,7 +88,7 @@ module _ (c : Call) (p : Plan) (h : OnPlan c p) where
 
   pub result : Kept c → Result c p
   result k =
-      let e : heard (c .before) (c .text) ≡ plan p = ap (λ b. cond b (read (c .text)) (refused 7 0)) (h .long) ∙ h .reads in
+      let e : heard (c .before) (c .text) ≡ plan p = ap (λ b. cond b (read (c .text)) (refused AREA-TOO-SHORT 0)) (h .long) ∙ h .reads in
       go (k .outcome) (subst (λ r. Right r (k .outcome)) e (k .right)) (k .numbered) (k .placed) (k .writes)
     where
       go : (o : Outcome) → Right (plan p) o → c .number ≡ number o → c .place ≡ place o → c .after ≡ written o (c .before) → Result c p

@@ -10,7 +10,8 @@ pub mod Climb
 pub mod Levels
 pub mod Fair
 pub mod Wishes
--- areas and rows of times
+-- parts of a list, areas and rows of times
+pub mod Slices
 pub mod Over
 pub mod Times
 -- a text's reading

@@ -20,6 +20,7 @@ use Rattle.meaning.proofs.Fair.{best-levels}
 use Rattle.meaning.proofs.Chains.{chain-excludes}
 use Rattle.meaning.proofs.Exists.{plan-held}
 use Rattle.meaning.proofs.Solve.{plan-solved}
+use Rattle.meaning.specs.Numbers.{AREA-TOO-SHORT}
 
 -- ---- of a plan
 
@@ -48,10 +49,10 @@ pub record Faultless (r : Reading) : Type 0 where
 pub heard-faultless : (a : Areas) (text : List ℕ) → Faultless (heard a text)
 heard-faultless a text = go (longEnough a)
   where
-    never : (p : Plan) → refused 7 0 ≡ plan p → WithoutFault p
+    never : (p : Plan) → refused AREA-TOO-SHORT 0 ≡ plan p → WithoutFault p
     never p e = absurd (let z : _≡_ {A = ℕ} 0 1 = cc in omega arith)
 
-    go : (b : Bool) → Faultless (cond b (read text) (refused 7 0))
+    go : (b : Bool) → Faultless (cond b (read text) (refused AREA-TOO-SHORT 0))
     go true = record { faultless = λ p e. read-faultless text e }
     go false = record { faultless = never }
 
@@ -89,8 +90,17 @@ one-outcome (refused m k) f (refusal n l) (refusal n′ l′) a b = same-if (λ 
 -- what two calls on the same areas agree on
 pub one-promise : {text : List ℕ} {before x y : Areas} {no mo at bt : ℕ} → Promise text before x no at → Promise text before y mo bt → Agree x y no mo at bt
 one-promise {text} {before} {x} {y} {no = nu} {mo} {at} {bt} a b =
-    go (one-outcome (heard before text) (heard-faultless before text) (a .outcome) (b .outcome) (a .right) (b .right)) (a .numbered) (b .numbered) (a .placed) (b .placed) (a .writes) (b .writes)
+    go (one-outcome (heard before text) (heard-faultless before text) (a .outcome) (b .outcome) (a .right) (b .right))
+    (a .numbered) (b .numbered) (a .placed) (b .placed) (a .writes) (b .writes)
   where
-    go : {o q : Outcome} → Same o q → nu ≡ number o → mo ≡ number q → at ≡ place o → bt ≡ place q → x ≡ written o before → y ≡ written q before → Agree x y nu mo at bt
-    go equal n m c d e h = record { numbers = n ∙ sym m; times = ap (λ z. z .times) (e ∙ sym h); levels = ap (λ z. z .levels) (e ∙ sym h); rest = inr (c ∙ sym d, ap (λ z. z .chain) (e ∙ sym h)) }
-    go chains n m c d e h = record { numbers = n ∙ sym m; times = ap (λ z. z .times) e ∙ sym (ap (λ z. z .times) h); levels = ap (λ z. z .levels) e ∙ sym (ap (λ z. z .levels) h); rest = inl n }
+    go : {o q : Outcome} → Same o q → nu ≡ number o → mo ≡ number q → at ≡ place o → bt ≡ place q → x ≡ written o before → y ≡ written q before
+        → Agree x y nu mo at bt
+    go equal n m c d e h =
+        let one = e ∙ sym h in
+        record { numbers = n ∙ sym m; times = ap (λ z. z .times) one; levels = ap (λ z. z .levels) one; rest = inr (c ∙ sym d, ap (λ z. z .chain) one) }
+    go chains n m c d e h = record {
+      numbers = n ∙ sym m;
+      times = ap (λ z. z .times) e ∙ sym (ap (λ z. z .times) h);
+      levels = ap (λ z. z .levels) e ∙ sym (ap (λ z. z .levels) h);
+      rest = inl n;
+    }

@@ -12,12 +12,17 @@ use lib.ListN.{length, getD, drop, length-append, length-drop, length-map}
 use lib.IntN.{ℤ, pos, natAbs, _+ℤ_, _-ℤ_, negℤ}
 use lib.Signed.{leZ, _≤ℤ_}
 use Rattle.ticks.proofs.Ticks.{ticks, sum}
-use Rattle.meaning.specs.Plan.{Record, rule, wish, Plan, nothing, MOST-RECORDS, MOST-LEVELS, MOST-LEVELS-TOGETHER, MOST-HORIZON, MOST-EVENTS, MOST-END, MOST-BYTES}
+use Rattle.meaning.specs.Plan.{Record, rule, wish, Plan, nothing}
+use Rattle.meaning.specs.Plan.{MOST-RECORDS, MOST-LEVELS, MOST-LEVELS-TOGETHER, MOST-HORIZON, MOST-EVENTS, MOST-END, MOST-BYTES}
 use Rattle.meaning.specs.Peak.{peaked}
-use Rattle.meaning.specs.Reading.{Form, eventsLine, ruleLine, wishLine, wrong, eventsForm, ruleForm, wishForm, formOf, lineForm, same, numbers, split, EVENTS, RULE, WISH, TAB, LINE-FEED, between, allLevels, inRange, sameEvent, lastOf, levelsTogether, withRecord, Step, taken, fault, unless, firstLine, laterLine, lineStep, plan, refused, empty, afterStep, readPieces, read, item}
+use Rattle.meaning.specs.Reading.{EVENTS, RULE, WISH, TAB, LINE-FEED, same, split, numbers, item}
+use Rattle.meaning.specs.Reading.{Form, eventsLine, ruleLine, wishLine, wrong, eventsForm, ruleForm, wishForm, formOf, lineForm}
+use Rattle.meaning.specs.Reading.{between, allLevels, inRange, sameEvent, lastOf, levelsTogether, withRecord}
+use Rattle.meaning.specs.Reading.{Step, taken, fault, unless, firstLine, laterLine, lineStep, plan, refused, empty, afterStep, readPieces, read}
 use Rattle.meaning.specs.Faultless.{GoodRecord, WithoutFault}
 use Rattle.meaning.proofs.Peaks.{peaked-sound}
 use Rattle.meaning.proofs.Tests.{both, event-below, count-from, count-to, levels-mild, apart, in-range}
+use Rattle.meaning.specs.Numbers.{WRONG-FORM, TOO-MANY, OUT-OF-RANGE, SAME-EVENT, NOT-PEAKED}
 
 -- ---- a form that a line has: a wish has a level
 
@@ -61,7 +66,9 @@ line-level l = go (split TAB l)
 
 -- the last level's distance is a wish's hi
 last-high : (lo : ℤ) (ls : List ℤ) → 1 ≤ length ls → lastOf lo ls ≡ lo +ℤ pos (length (map natAbs ls)) -ℤ pos 1
-last-high lo ls h = omega (ticks, length-map ls natAbs, sum lo (pos (length ls - 1)), sum lo (pos (length (map natAbs ls))), sum (lo +ℤ pos (length (map natAbs ls))) (negℤ (pos 1)))
+last-high lo ls h =
+    let m = pos (length (map natAbs ls)) in
+    omega (ticks, length-map ls natAbs, sum lo (pos (length ls - 1)), sum lo m, sum (lo +ℤ m) (negℤ (pos 1)))
 
 -- ---- one record more
 
@@ -77,7 +84,8 @@ levels-more [] r = omega arith
 levels-more (rule a b lo hi ∷ rs) r = levels-more rs r
 levels-more (wish a b lo ls ∷ rs) r = omega (arith, levels-more rs r)
 
-record-more : (p : Plan) (r : Record) → WithoutFault p → length (p .records) < MOST-RECORDS → levelsTogether (p .records) + levelsTogether (r ∷ []) ≤ MOST-LEVELS-TOGETHER →
+record-more : (p : Plan) (r : Record) → WithoutFault p → length (p .records) < MOST-RECORDS →
+    levelsTogether (p .records) + levelsTogether (r ∷ []) ≤ MOST-LEVELS-TOGETHER →
     GoodRecord (p .events) r → WithoutFault (withRecord p r)
 record-more p r w few together g = record {
   some = w .some;
@@ -106,7 +114,7 @@ first-without (ruleLine a b lo hi) e = refuse e
 first-without (wishLine a b lo ls) e = refuse e
 first-without wrong e = refuse e
 first-without (eventsLine n h) e =
-    let e4 = passed (between (pos 1) (pos MOST-EVENTS) n && between (pos 0) (pos MOST-HORIZON) h) 4 _ e in
+    let e4 = passed (between (pos 1) (pos MOST-EVENTS) n && between (pos 0) (pos MOST-HORIZON) h) OUT-OF-RANGE _ e in
     let t = both (between (pos 1) (pos MOST-EVENTS) n) (between (pos 0) (pos MOST-HORIZON) h) (e4 .0) in
     is-without (e4 .1) (record {
       some = count-from 1 n (both (leZ (pos 1) n) (leZ n (pos MOST-EVENTS)) (t .0) .0);
@@ -119,13 +127,14 @@ first-without (eventsLine n h) e =
 
 rule-without : (p : Plan) (a b lo hi : ℤ) {q : Plan} → WithoutFault p → laterLine p (ruleLine a b lo hi) ≡ taken q → WithoutFault q
 rule-without p a b lo hi w e =
-    let e3 = passed (ltb (length (p .records)) MOST-RECORDS) 3 _ e in
-    let e4 = passed (inRange (p .events) a b lo hi && leZ lo hi) 4 _ (e3 .1) in
-    let e5 = passed (not (sameEvent a b)) 5 _ (e4 .1) in
+    let e3 = passed (ltb (length (p .records)) MOST-RECORDS) TOO-MANY _ e in
+    let e4 = passed (inRange (p .events) a b lo hi && leZ lo hi) OUT-OF-RANGE _ (e3 .1) in
+    let e5 = passed (not (sameEvent a b)) SAME-EVENT _ (e4 .1) in
     let t = both (inRange (p .events) a b lo hi) (leZ lo hi) (e4 .0) in
     let r = in-range (p .events) a b lo hi (t .0) in
     let o = t .1 in
-    is-without (e5 .1) (record-more p (rule (natAbs a) (natAbs b) lo hi) w (ltb-true (length (p .records)) MOST-RECORDS (e3 .0)) (omega (arith, w .together)) (record {
+    let few = ltb-true (length (p .records)) MOST-RECORDS (e3 .0) in
+    is-without (e5 .1) (record-more p (rule (natAbs a) (natAbs b) lo hi) w few (omega (arith, w .together)) (record {
       starts = event-below (p .events) a (r .first);
       ends = event-below (p .events) b (r .second);
       apart = apart (p .events) a b (r .first) (r .second) (e5 .0);
@@ -139,10 +148,10 @@ wish-without : (p : Plan) (a b lo : ℤ) (ls : List ℤ) {q : Plan} → 1 ≤ le
 wish-without p a b lo ls h w e =
     let many = ltb (length (p .records)) MOST-RECORDS in
     let n = p .events in
-    let e3 = passed (many && leb (length ls) MOST-LEVELS && leb (levelsTogether (p .records) + length ls) MOST-LEVELS-TOGETHER) 3 _ e in
-    let e4 = passed (inRange n a b lo (lastOf lo ls) && allLevels ls) 4 _ (e3 .1) in
-    let e5 = passed (not (sameEvent a b)) 5 _ (e4 .1) in
-    let e6 = passed (peaked (map natAbs ls)) 6 _ (e5 .1) in
+    let e3 = passed (many && leb (length ls) MOST-LEVELS && leb (levelsTogether (p .records) + length ls) MOST-LEVELS-TOGETHER) TOO-MANY _ e in
+    let e4 = passed (inRange n a b lo (lastOf lo ls) && allLevels ls) OUT-OF-RANGE _ (e3 .1) in
+    let e5 = passed (not (sameEvent a b)) SAME-EVENT _ (e4 .1) in
+    let e6 = passed (peaked (map natAbs ls)) NOT-PEAKED _ (e5 .1) in
     let counts = both (many && leb (length ls) MOST-LEVELS) (leb (levelsTogether (p .records) + length ls) MOST-LEVELS-TOGETHER) (e3 .0) in
     let count = both many (leb (length ls) MOST-LEVELS) (counts .0) in
     let t = both (inRange n a b lo (lastOf lo ls)) (allLevels ls) (e4 .0) in
@@ -195,7 +204,7 @@ pieces-without : (ps : List (List ℕ)) (line : ℕ) (p : Plan) {q : Plan} → 1
 pieces-without [] line p h w e = unread e
 pieces-without (l ∷ []) line p {q} h w e = go (eqb (length l) 0 && ltb 1 line) refl e
   where
-    go : (t : Bool) → (eqb (length l) 0 && ltb 1 line) ≡ t → cond t (plan p) (refused 2 line) ≡ plan q → WithoutFault q
+    go : (t : Bool) → (eqb (length l) 0 && ltb 1 line) ≡ t → cond t (plan p) (refused WRONG-FORM line) ≡ plan q → WithoutFault q
     go true d e = is-plan e (w (ltb-true 1 line (both (eqb (length l) 0) (ltb 1 line) d .1)))
     go false d e = unread e
 pieces-without (l ∷ m ∷ ms) line p {q} h w e = go (lineStep line p (lineForm l)) refl (λ r v. pieces-without (m ∷ ms) (line + 1) r (omega arith) (λ g. v)) e
@@ -209,6 +218,6 @@ pub read-faultless : (text : List ℕ) {p : Plan} → read text ≡ plan p → W
 unfolding read
 read-faultless text {p} e = go (ltb MOST-BYTES (length text)) e
   where
-    go : (t : Bool) → cond t (refused 3 0) (readPieces (split LINE-FEED text) 1 empty) ≡ plan p → WithoutFault p
+    go : (t : Bool) → cond t (refused TOO-MANY 0) (readPieces (split LINE-FEED text) 1 empty) ≡ plan p → WithoutFault p
     go true e = unread e
     go false e = pieces-without (split LINE-FEED text) 1 empty (omega arith) (λ h. absurd (omega arith)) e

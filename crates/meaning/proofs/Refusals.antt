@@ -16,6 +16,7 @@ use Rattle.meaning.specs.Peak.{peaked}
 use Rattle.meaning.specs.Reading.{Form, eventsLine, ruleLine, wishLine, wrong, lineForm, grow, split, LINE-FEED}
 use Rattle.meaning.specs.Reading.{between, allLevels, inRange, sameEvent, lastOf, levelsTogether, Step, taken, fault, unless, firstLine, laterLine}
 use Rattle.meaning.specs.Reading.{lineStep, plan, refused, empty, afterStep, readPieces, read, linesIn, lines}
+use Rattle.meaning.specs.Numbers.{WRONG-FORM, TOO-MANY, OUT-OF-RANGE, SAME-EVENT, NOT-PEAKED}
 
 -- ---- the number of a fault
 
@@ -36,24 +37,25 @@ test-number false j s l h f e = this-number j l h e
 
 first-number : (f : Form) {m : ℕ} → firstLine f ≡ fault m → Numbered m
 first-number (eventsLine n h) e =
-    test-number (between (pos 1) (pos MOST-EVENTS) n && between (pos 0) (pos MOST-HORIZON) h) 4 _ (omega arith) (omega arith) (λ d. no-number d) e
-first-number (ruleLine a b lo hi) e = this-number 2 (omega arith) (omega arith) e
-first-number (wishLine a b lo ls) e = this-number 2 (omega arith) (omega arith) e
-first-number wrong e = this-number 2 (omega arith) (omega arith) e
+    test-number (between (pos 1) (pos MOST-EVENTS) n && between (pos 0) (pos MOST-HORIZON) h) OUT-OF-RANGE _ (omega arith) (omega arith) (λ d. no-number d) e
+first-number (ruleLine a b lo hi) e = this-number WRONG-FORM (omega arith) (omega arith) e
+first-number (wishLine a b lo ls) e = this-number WRONG-FORM (omega arith) (omega arith) e
+first-number wrong e = this-number WRONG-FORM (omega arith) (omega arith) e
 
 later-number : (p : Plan) (f : Form) {m : ℕ} → laterLine p f ≡ fault m → Numbered m
-later-number p (eventsLine n h) e = this-number 2 (omega arith) (omega arith) e
+later-number p (eventsLine n h) e = this-number WRONG-FORM (omega arith) (omega arith) e
 later-number p (ruleLine a b lo hi) e =
-    test-number (ltb (length (p .records)) MOST-RECORDS) 3 _ (omega arith) (omega arith)
-    (λ e. test-number (inRange (p .events) a b lo hi && leZ lo hi) 4 _ (omega arith) (omega arith)
-    (λ e. test-number (not (sameEvent a b)) 5 _ (omega arith) (omega arith) (λ d. no-number d) e) e) e
+    test-number (ltb (length (p .records)) MOST-RECORDS) TOO-MANY _ (omega arith) (omega arith)
+    (λ e. test-number (inRange (p .events) a b lo hi && leZ lo hi) OUT-OF-RANGE _ (omega arith) (omega arith)
+    (λ e. test-number (not (sameEvent a b)) SAME-EVENT _ (omega arith) (omega arith) (λ d. no-number d) e) e) e
 later-number p (wishLine a b lo ls) e =
-    test-number (ltb (length (p .records)) MOST-RECORDS && leb (length ls) MOST-LEVELS && leb (levelsTogether (p .records) + length ls) MOST-LEVELS-TOGETHER) 3 _
-    (omega arith) (omega arith)
-    (λ e. test-number (inRange (p .events) a b lo (lastOf lo ls) && allLevels ls) 4 _ (omega arith) (omega arith)
-    (λ e. test-number (not (sameEvent a b)) 5 _ (omega arith) (omega arith)
-    (λ e. test-number (peaked (map natAbs ls)) 6 _ (omega arith) (omega arith) (λ d. no-number d) e) e) e) e
-later-number p wrong e = this-number 2 (omega arith) (omega arith) e
+    let few = ltb (length (p .records)) MOST-RECORDS in
+    let together = leb (levelsTogether (p .records) + length ls) MOST-LEVELS-TOGETHER in
+    test-number (few && leb (length ls) MOST-LEVELS && together) TOO-MANY _ (omega arith) (omega arith)
+    (λ e. test-number (inRange (p .events) a b lo (lastOf lo ls) && allLevels ls) OUT-OF-RANGE _ (omega arith) (omega arith)
+    (λ e. test-number (not (sameEvent a b)) SAME-EVENT _ (omega arith) (omega arith)
+    (λ e. test-number (peaked (map natAbs ls)) NOT-PEAKED _ (omega arith) (omega arith) (λ d. no-number d) e) e) e) e
+later-number p wrong e = this-number WRONG-FORM (omega arith) (omega arith) e
 
 step-number : (line : ℕ) (p : Plan) (f : Form) {m : ℕ} → lineStep line p f ≡ fault m → Numbered m
 unfolding lineStep
@@ -116,12 +118,12 @@ last-line line l true false a b c = omega (arith, ltb-false 1 line b)
 last-line line l false t a b c = omega arith
 
 pieces-among : (ps : List (List ℕ)) (line : ℕ) (p : Plan) {m k : ℕ} → 1 ≤ line → readPieces ps line p ≡ refused m k → Among line ps m k
-pieces-among [] line p o e = this-refusal 2 line [] two (omega arith) e
+pieces-among [] line p o e = this-refusal WRONG-FORM line [] two (omega arith) e
 pieces-among (l ∷ []) line p {m} {k} o e = go (eqb (length l) 0 && ltb 1 line) refl e
   where
-    go : (t : Bool) → (eqb (length l) 0 && ltb 1 line) ≡ t → cond t (plan p) (refused 2 line) ≡ refused m k → Among line (l ∷ []) m k
+    go : (t : Bool) → (eqb (length l) 0 && ltb 1 line) ≡ t → cond t (plan p) (refused WRONG-FORM line) ≡ refused m k → Among line (l ∷ []) m k
     go true d e = no-refusal e
-    go false d e = this-refusal 2 line (l ∷ []) two (last-line line l (eqb (length l) 0) (ltb 1 line) refl refl d) e
+    go false d e = this-refusal WRONG-FORM line (l ∷ []) two (last-line line l (eqb (length l) 0) (ltb 1 line) refl refl d) e
 pieces-among (l ∷ q ∷ qs) line p {m} {k} o e = go (lineStep line p (lineForm l)) refl (λ r d. pieces-among (q ∷ qs) (line + 1) r (omega arith) d) e
   where
     go : (s : Step) → lineStep line p (lineForm l) ≡ s → ((r : Plan) → readPieces (q ∷ qs) (line + 1) r ≡ refused m k → Among (line + 1) (q ∷ qs) m k) →
@@ -141,7 +143,8 @@ pub refused-number : (text : List ℕ) {m k : ℕ} → read text ≡ refused m k
 unfolding read
 refused-number text {m} {k} e = go (ltb MOST-BYTES (length text)) refl e
   where
-    go : (t : Bool) → ltb MOST-BYTES (length text) ≡ t → cond t (refused 3 0) (readPieces (split LINE-FEED text) 1 empty) ≡ refused m k → Refusal text m k
+    go : (t : Bool) → ltb MOST-BYTES (length text) ≡ t → cond t (refused TOO-MANY 0) (readPieces (split LINE-FEED text) 1 empty) ≡ refused m k
+        → Refusal text m k
     go true d e =
         let f : 3 ≡ m = cc in
         let g : 0 ≡ k = cc in

@@ -8,7 +8,7 @@ use lib.ListN.{length}
 use lib.IntN.{ℤ, pos, _+ℤ_, negℤ}
 use lib.Signed.{_≤ℤ_, _<ℤ_}
 use Rattle.meaning.specs.Plan as P
-use Rattle.meaning.specs.Plan.{Record, Plan, Times}
+use Rattle.meaning.specs.Plan.{Record, Plan, Times, MOST-RECORDS}
 
 -- t(end) − t(start) ≤ weight
 pub record Bound : Type 0 where
@@ -28,12 +28,16 @@ upper k r = record { start = P.start r; end = P.end r; weight = P.high r; code =
 abbrev pub lower : ℕ → Record → Bound
 lower k r = record { start = P.end r; end = P.start r; weight = negℤ (P.low r); code = 2 * k + 1 }
 
+-- the codes of the records are below the horizon's
+abbrev pub HORIZON-CODES : ℕ
+HORIZON-CODES = 2 * MOST-RECORDS
+
 -- of the horizon, for event e other than 0: from 0 to e with weight H, and from e to 0 with weight 0
 abbrev pub horizonUpper : ℕ → ℕ → Bound
-horizonUpper H e = record { start = 0; end = e; weight = pos H; code = 512 + 2 * e }
+horizonUpper H e = record { start = 0; end = e; weight = pos H; code = HORIZON-CODES + 2 * e }
 
 abbrev pub horizonLower : ℕ → Bound
-horizonLower e = record { start = e; end = 0; weight = pos 0; code = 513 + 2 * e }
+horizonLower e = record { start = e; end = 0; weight = pos 0; code = HORIZON-CODES + 2 * e + 1 }
 
 -- of the records from number k on
 abbrev pub recordBounds : ℕ → List Record → List Bound

@@ -5,7 +5,8 @@ use Prim.Native.Nat.{ℕ, _≤_, _<_}
 use lib.ListN.{length, getD}
 use lib.IntN.{pos, negℤ}
 use lib.Signed.{_≤ℤ_}
-use Rattle.meaning.specs.Plan.{Record, rule, wish, Plan, recordAt, start, end, low, high, MOST-EVENTS, MOST-HORIZON, MOST-END, MOST-RECORDS, MOST-LEVELS, MOST-LEVELS-TOGETHER, TOP-LEVEL}
+use Rattle.meaning.specs.Plan.{Record, rule, wish, Plan, recordAt, start, end, low, high}
+use Rattle.meaning.specs.Plan.{MOST-EVENTS, MOST-HORIZON, MOST-END, MOST-RECORDS, MOST-LEVELS, MOST-LEVELS-TOGETHER, TOP-LEVEL}
 use Rattle.meaning.specs.Peak.{SinglePeaked}
 use Rattle.meaning.specs.Reading.{levelsTogether}
 

@@ -35,7 +35,8 @@ CASE-8 = "events\t3\t10\nrule\t0\t1\t4\t10\nrule\t1\t2\t4\t10\nrule\t0\t2\t0\t8\
 abbrev pub table : List Known
 table =
     known "events\t1\t0\n" (solved (pos 0 ∷ []) [])
-    ∷ known "events\t4\t20\nrule\t0\t1\t3\t3\nrule\t1\t2\t0\t20\nwish\t2\t3\t2\t0\t1\t3\t2\nwish\t0\t3\t4\t3\t3\t2\t2\t1\t0\n" (solved (pos 0 ∷ pos 3 ∷ pos 3 ∷ pos 7 ∷ []) (3 ∷ 2 ∷ []))
+    ∷ known "events\t4\t20\nrule\t0\t1\t3\t3\nrule\t1\t2\t0\t20\nwish\t2\t3\t2\t0\t1\t3\t2\nwish\t0\t3\t4\t3\t3\t2\t2\t1\t0\n"
+    (solved (pos 0 ∷ pos 3 ∷ pos 3 ∷ pos 7 ∷ []) (3 ∷ 2 ∷ []))
     ∷ known "events\t2\t1\nwish\t0\t1\t0\t0\t1\nwish\t0\t1\t0\t1\t0\n" (solved (pos 0 ∷ pos 1 ∷ []) (1 ∷ 0 ∷ []))
     ∷ known "events\t2\t1\nwish\t0\t1\t0\t1\t0\nwish\t0\t1\t0\t0\t1\n" (solved (pos 0 ∷ pos 0 ∷ []) (1 ∷ 0 ∷ []))
     ∷ known CASE-5 (solved (pos 0 ∷ pos 1 ∷ []) (1 ∷ 1 ∷ []))

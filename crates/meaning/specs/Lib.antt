@@ -1,5 +1,6 @@
 -- Document 01 as definitions, a file a section: what must be believed.
 pub mod Plan
+pub mod Numbers
 pub mod Peak
 pub mod Reading
 pub mod Bounds

@@ -11,6 +11,7 @@ use Rattle.meaning.specs.Plan.{Plan, Times, Timetable, levels, wishes, M
 use Rattle.meaning.specs.Ladder.{questions, Best}
 use Rattle.meaning.specs.Bounds.{Chain}
 use Rattle.meaning.specs.Reading.{Reading, plan, refused, read}
+use Rattle.meaning.specs.Numbers.{SOLVED, NO-TIMETABLE, AREA-TOO-SHORT}
 
 -- ---- what an outcome says
 
@@ -20,8 +21,8 @@ pub data Outcome : Type 0 where
   refusal : (number place : ℕ) → Outcome
 
 abbrev pub number : Outcome → ℕ
-number (solved ts ls) = 0
-number (none cs) = 1
+number (solved ts ls) = SOLVED
+number (none cs) = NO-TIMETABLE
 number (refusal n l) = n
 
 -- the count of wishes; the count of chain steps; the line
@@ -66,7 +67,7 @@ longEnough a = leb MOST-EVENTS (length (a .times)) && leb MOST-RECORDS (length (
 
 -- 7 at place 0 for an area too short comes first; then the text
 abbrev pub heard : Areas → List ℕ → Reading
-heard a text = cond (longEnough a) (read text) (refused 7 0)
+heard a text = cond (longEnough a) (read text) (refused AREA-TOO-SHORT 0)
 
 -- written from the front; all other entries keep their old contents
 abbrev pub over {ℓ} : {A : Type ℓ} → List A → List A → List A

@@ -7,8 +7,10 @@ use lib.Dec.{leb, ltb, eqb}
 use lib.ListN.{length, getD, drop}
 use lib.IntN.{ℤ, pos, negℤ, natAbs, _+ℤ_}
 use lib.Signed.{leZ, ltZ}
-use Rattle.meaning.specs.Plan.{Record, rule, wish, Plan, MOST-EVENTS, MOST-HORIZON, MOST-END, MOST-RECORDS, MOST-LEVELS, MOST-LEVELS-TOGETHER, MOST-BYTES, TOP-LEVEL}
+use Rattle.meaning.specs.Plan.{Record, rule, wish, Plan}
+use Rattle.meaning.specs.Plan.{MOST-EVENTS, MOST-HORIZON, MOST-END, MOST-RECORDS, MOST-LEVELS, MOST-LEVELS-TOGETHER, MOST-BYTES, TOP-LEVEL}
 use Rattle.meaning.specs.Peak.{peaked}
+use Rattle.meaning.specs.Numbers.{WRONG-FORM, TOO-MANY, OUT-OF-RANGE, SAME-EVENT, NOT-PEAKED}
 
 -- ---- bytes
 
@@ -170,27 +172,28 @@ unless false k s = fault k
 -- line 1 is `events`
 abbrev pub firstLine : Form → Step
 firstLine (eventsLine n h) =
-    unless (between (pos 1) (pos MOST-EVENTS) n && between (pos 0) (pos MOST-HORIZON) h) 4
+    unless (between (pos 1) (pos MOST-EVENTS) n && between (pos 0) (pos MOST-HORIZON) h) OUT-OF-RANGE
     (taken (record { events = natAbs n; horizon = natAbs h; records = [] }))
-firstLine (ruleLine a b lo hi) = fault 2
-firstLine (wishLine a b lo ls) = fault 2
-firstLine wrong = fault 2
+firstLine (ruleLine a b lo hi) = fault WRONG-FORM
+firstLine (wishLine a b lo ls) = fault WRONG-FORM
+firstLine wrong = fault WRONG-FORM
 
 -- a later line is `rule` or `wish`; its first fault in the order 2, 3, 4, 5, 6
 abbrev pub laterLine : Plan → Form → Step
-laterLine p (eventsLine n h) = fault 2
+laterLine p (eventsLine n h) = fault WRONG-FORM
 laterLine p (ruleLine a b lo hi) =
-    unless (ltb (length (p .records)) MOST-RECORDS) 3
-    (unless (inRange (p .events) a b lo hi && leZ lo hi) 4
-    (unless (not (sameEvent a b)) 5
+    unless (ltb (length (p .records)) MOST-RECORDS) TOO-MANY
+    (unless (inRange (p .events) a b lo hi && leZ lo hi) OUT-OF-RANGE
+    (unless (not (sameEvent a b)) SAME-EVENT
     (taken (withRecord p (rule (natAbs a) (natAbs b) lo hi)))))
 laterLine p (wishLine a b lo ls) =
-    unless (ltb (length (p .records)) MOST-RECORDS && leb (length ls) MOST-LEVELS && leb (levelsTogether (p .records) + length ls) MOST-LEVELS-TOGETHER) 3
-    (unless (inRange (p .events) a b lo (lastOf lo ls) && allLevels ls) 4
-    (unless (not (sameEvent a b)) 5
-    (unless (peaked (map natAbs ls)) 6
+    unless (ltb (length (p .records)) MOST-RECORDS && leb (length ls) MOST-LEVELS
+    && leb (levelsTogether (p .records) + length ls) MOST-LEVELS-TOGETHER) TOO-MANY
+    (unless (inRange (p .events) a b lo (lastOf lo ls) && allLevels ls) OUT-OF-RANGE
+    (unless (not (sameEvent a b)) SAME-EVENT
+    (unless (peaked (map natAbs ls)) NOT-PEAKED
     (taken (withRecord p (wish (natAbs a) (natAbs b) lo (map natAbs ls)))))))
-laterLine p wrong = fault 2
+laterLine p wrong = fault WRONG-FORM
 
 unfoldable pub lineStep : ℕ → Plan → Form → Step
 lineStep line p f = cond (eqb line 1) (firstLine f) (laterLine p f)
@@ -212,13 +215,13 @@ afterStep line k (fault n) = refused n line
 -- the pieces that line feeds part, the first of them line number `line`. The last one is what follows the last line feed:
 -- it has to be empty, and at least one line stands before it
 abbrev pub readPieces : List (List ℕ) → ℕ → Plan → Reading
-readPieces [] line p = refused 2 line
-readPieces (l ∷ []) line p = cond (eqb (length l) 0 && ltb 1 line) (plan p) (refused 2 line)
+readPieces [] line p = refused WRONG-FORM line
+readPieces (l ∷ []) line p = cond (eqb (length l) 0 && ltb 1 line) (plan p) (refused WRONG-FORM line)
 readPieces (l ∷ m ∷ ms) line p = afterStep line (λ (q : Plan). readPieces (m ∷ ms) (line + 1) q) (lineStep line p (lineForm l))
 
 -- 3 at place 0 for the text's length; then the lines from the top
 unfoldable pub read : List ℕ → Reading
-read text = cond (ltb MOST-BYTES (length text)) (refused 3 0) (readPieces (split LINE-FEED text) 1 empty)
+read text = cond (ltb MOST-BYTES (length text)) (refused TOO-MANY 0) (readPieces (split LINE-FEED text) 1 empty)
 
 -- how many lines a text has: what follows the last line feed is one unless it is empty, and the empty text has one
 abbrev pub linesIn : List (List ℕ) → ℕ

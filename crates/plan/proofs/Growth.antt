@@ -6,6 +6,7 @@ use native.Mathlib.Omega.{arith}
 use lib.ListN.{length, getD, set, replicate, length-set, length-append}
 use lib.Seq.{sets, length-sets}
 use Rattle.meaning.specs.Plan as M
+use Rattle.meaning.specs.Plan.{MOST-RECORDS, MOST-LEVELS-TOGETHER}
 use Rattle.meaning.specs.Reading.{levelsTogether, withRecord, empty}
 use Rattle.plan.specs.declared.Record.{Record}
 use Rattle.plan.specs.declared.Plan.{Plan}
@@ -36,10 +37,13 @@ pub together-more : (rs : List M.Record) (r : M.Record) → levelsTogether (rs +
 together-more [] r = omega (arith, together-cons r [])
 together-more (x ∷ rs) r = omega (arith, together-cons x (rs ++ (r ∷ [])), together-cons x rs, together-more rs r)
 
+-- the struct that the code makes: one row more, with n levels
+abbrev pub withRow : Plan → Record → ℕ → Plan
+withRow h r n = record { events = h .events; horizon = h .horizon; count = h .count + 1; used = h .used + n; records = set (h .records) (h .count) r }
+
 module _ (p : M.Plan) (m : M.Record) where
-  -- the struct that the code makes: n levels more
-  pub holds-more : (h : Plan) (n : ℕ) → Holds p h → h .count < 256 → n ≡ length (levelsIn m)
-      → Holds (withRecord p m) (record { events = h .events; horizon = h .horizon; count = h .count + 1; used = h .used + n; records = set (h .records) (h .count) (rowOf (h .used) m) })
+  pub holds-more : (h : Plan) (n : ℕ) → Holds p h → h .count < MOST-RECORDS → n ≡ length (levelsIn m)
+      → Holds (withRecord p m) (withRow h (rowOf (h .used) m) n)
   holds-more h n o few e = record {
     events = o .events;
     horizon = o .horizon;
@@ -48,21 +52,32 @@ module _ (p : M.Plan) (m : M.Record) where
     size = length-set (h .records) (h .count) (rowOf (h .used) m) ∙ o .size;
     rows = λ k.
         rw (rows-more 0 (h .used) (p .records) m (omega (arith, o .used)))
-        (one-more blank (λ _. Unit {0}) (h .records) (rowsOf 0 (p .records)) (rowOf (h .used) m) (h .count) (o .count ∙ sym (length-rows 0 (p .records))) (omega (arith, o .size)) (λ i _. o .rows i) k tt);
+        (one-more blank (λ _. Unit {0}) (h .records) (rowsOf 0 (p .records)) (rowOf (h .used) m) (h .count)
+        (o .count ∙ sym (length-rows 0 (p .records))) (omega (arith, o .size)) (λ i _. o .rows i) k tt);
   }
 
-  pub held-more : (before after : List ℕ) (used : ℕ) → LevelsHeld p before after → used ≡ levelsTogether (p .records) → used + length (levelsIn m) ≤ 8192 → 8192 ≤ length before
+  pub held-more : (before after : List ℕ) (used : ℕ) → LevelsHeld p before after → used ≡ levelsTogether (p .records)
+      → used + length (levelsIn m) ≤ MOST-LEVELS-TOGETHER → MOST-LEVELS-TOGETHER ≤ length before
       → LevelsHeld (withRecord p m) before (sets after used (levelsIn m))
   held-more before after used o e fits long = record {
     long = length-sets after used (levelsIn m) ∙ o .long;
     done = λ i h.
         rw (flat-more (p .records) m)
-        (all-more 0 (λ k. k < 8192) (levelsIn m) after (flat (p .records)) used (e ∙ sym (length-flat (p .records))) (omega (arith, o .long)) (o .done) i h);
-    rest = sets-above 8192 (levelsIn m) after before used fits (o .rest);
+        (all-more 0 (λ k. k < MOST-LEVELS-TOGETHER) (levelsIn m) after (flat (p .records)) used
+        (e ∙ sym (length-flat (p .records))) (omega (arith, o .long)) (o .done) i h);
+    rest = sets-above MOST-LEVELS-TOGETHER (levelsIn m) after before used fits (o .rest);
   }
 
 -- ---- the plan before its first line
 
--- `rs` is the row of 256 blank records
-pub holds-empty : (rs : List Record) → rs ≡ replicate 256 blank → length rs ≡ 256 → Holds empty (record { events = 0; horizon = 0; count = 0; used = 0; records = rs })
-holds-empty rs e n = record { events = refl; horizon = refl; count = refl; used = refl; size = n; rows = λ k. ap (λ (l : List Record). getD l k blank) e ∙ all-same blank 256 k }
+-- `rs` is the row of blank records
+pub holds-empty : (rs : List Record) → rs ≡ replicate MOST-RECORDS blank → length rs ≡ MOST-RECORDS
+    → Holds empty (record { events = 0; horizon = 0; count = 0; used = 0; records = rs })
+holds-empty rs e n = record {
+  events = refl;
+  horizon = refl;
+  count = refl;
+  used = refl;
+  size = n;
+  rows = λ k. ap (λ (l : List Record). getD l k blank) e ∙ all-same blank MOST-RECORDS k;
+}

@@ -1,12 +1,5 @@
--- What the proofs of `plan` share, and the laws for those who use a plan in memory.
-pub mod Tests
+-- Laws of a plan in memory: one record more, what it gives to those who use it, and that there is only one.
 pub mod Padded
-pub mod Peaks
-pub mod Walks
-pub mod Judges
-pub mod Wishes
 pub mod Growth
-pub mod Steps
-pub mod Answers
-pub mod Same
 pub mod Use
+pub mod Same

@@ -44,16 +44,11 @@ all-same d (suc n) zero = refl
 all-same d (suc n) (suc k) = all-same d n k
 
 -- places from N on are not touched by a store below N
-pub kept-above : (N : ℕ) (xs ys : List ℕ) (n v : ℕ) → n < N → ((k : ℕ) → N ≤ k → getD xs k 0 ≡ getD ys k 0) → (k : ℕ) → N ≤ k → getD (set xs n v) k 0 ≡ getD ys k 0
+pub kept-above : (N : ℕ) (xs ys : List ℕ) (n v : ℕ) → n < N → ((k : ℕ) → N ≤ k → getD xs k 0 ≡ getD ys k 0)
+    → (k : ℕ) → N ≤ k → getD (set xs n v) k 0 ≡ getD ys k 0
 kept-above N xs ys n v h at k p = getD-set-other xs n k v 0 (λ e. omega arith) ∙ at k p
 
-pub sets-above : (N : ℕ) (vs xs ys : List ℕ) (n : ℕ) → n + length vs ≤ N → ((k : ℕ) → N ≤ k → getD xs k 0 ≡ getD ys k 0) → (k : ℕ) → N ≤ k → getD (sets xs n vs) k 0 ≡ getD ys k 0
+pub sets-above : (N : ℕ) (vs xs ys : List ℕ) (n : ℕ) → n + length vs ≤ N → ((k : ℕ) → N ≤ k → getD xs k 0 ≡ getD ys k 0)
+    → (k : ℕ) → N ≤ k → getD (sets xs n vs) k 0 ≡ getD ys k 0
 sets-above N [] xs ys n h at k p = at k p
 sets-above N (v ∷ vs) xs ys n h at k p = sets-above N vs (set xs n v) ys (suc n) (omega arith) (kept-above N xs ys n v (omega arith) at) k p
-
-pub zero-more : (xs : List ℕ) (n : ℕ) → n < length xs → ((k : ℕ) → k < n → getD xs k 0 ≡ 0) → (k : ℕ) → k < n + 1 → getD (set xs n 0) k 0 ≡ 0
-zero-more xs n h at k p = here (eqb k n) refl
-  where
-    here : (b : Bool) → eqb k n ≡ b → getD (set xs n 0) k 0 ≡ 0
-    here true q = let kn : k ≡ n = eqb-true k n q in rw kn (getD-set-same xs n 0 0 h)
-    here false q = getD-set-other xs n k 0 0 (eqb-false k n q) ∙ at k (omega (arith, eqb-false k n q))

@@ -1,4 +1,5 @@
--- What a plan in memory gives to those who use it: each row of the struct is its record of the plan, and the record's levels stand in the area where the row says.
+-- What a plan in memory gives to those who use it: each row of the struct is its record of the plan, and the record's levels stand in
+-- the area where the row says.
 use mathlib.Core.Path.{_≡_, refl, ap, _∙_}
 use mathlib.Core.Bool.{false}
 use mathlib.Core.List.{List, [], _∷_}
@@ -11,8 +12,8 @@ use lib.Seq.{slice, length-slice, getD-append-add, ext-getD}
 use Rattle.meaning.specs.Plan as M
 use Rattle.meaning.specs.Plan.{MOST-LEVELS-TOGETHER, nothing, recordAt}
 use Rattle.meaning.specs.Reading.{levelsTogether}
+use Rattle.meaning.proofs.Slices.{slice-at}
 use Rattle.meaning.specs.Faultless.{WithoutFault, Levelled}
-use Rattle.text.proofs.Slices.{slice-at}
 use Rattle.plan.specs.declared.Record.{Record}
 use Rattle.plan.specs.declared.Plan.{Plan}
 use Rattle.plan.specs.Held.{levelsIn, rowOf, rowsOf, flat, blank, recordOf, Holds}

@@ -1,21 +1,18 @@
--- How a reading stands in memory: the plan as a struct, the levels of all its wishes in one lent area, and what `read` promises.
+-- How a plan stands in memory: a struct, and the levels of all its wishes in one lent area.
 use mathlib.Core.Path.{_≡_}
 use mathlib.Core.Bool.{cond}
 use mathlib.Core.List.{List, [], _∷_, _++_}
 use Prim.Native.Nat.{ℕ, _+_, _≤_, _<_}
-use lib.Dec.{eqb, leb}
+use lib.Dec.{eqb}
 use lib.ListN.{length, getD}
 use lib.Seq.{slice}
 use lib.IntN.{pos}
 use Rattle.meaning.specs.Plan as M
 use Rattle.meaning.specs.Plan.{MOST-RECORDS, MOST-LEVELS-TOGETHER}
-use Rattle.meaning.specs.Reading as R
-use Rattle.meaning.specs.Reading.{Reading, levelsTogether}
+use Rattle.meaning.specs.Reading.{levelsTogether}
+use Rattle.meaning.specs.Faultless.{WithoutFault}
 use Rattle.plan.specs.declared.Record.{Record}
 use Rattle.plan.specs.declared.Plan.{Plan}
-use Rattle.plan.specs.declared.Answer.{Answer}
-use Rattle.plan.specs.declared.Verdict.{Verdict}
-use Rattle.plan.specs.declared.Verdict.the-variants.{Taken, Refused}
 
 -- ---- records
 
@@ -44,7 +41,9 @@ blank = record { a = 0; b = 0; first = 0; count = 0; lo = pos 0; hi = pos 0 }
 
 -- a record in memory, with the area of all levels, as a record of the plan
 abbrev pub recordOf : List ℕ → Record → M.Record
-recordOf levels r = cond (eqb (r .count) 0) (M.rule (r .a) (r .b) (r .lo) (r .hi)) (M.wish (r .a) (r .b) (r .lo) (slice (r .first) (r .first + r .count) levels))
+recordOf levels r =
+    cond (eqb (r .count) 0) (M.rule (r .a) (r .b) (r .lo) (r .hi))
+    (M.wish (r .a) (r .b) (r .lo) (slice (r .first) (r .first + r .count) levels))
 
 -- ---- the plan
 
@@ -57,39 +56,14 @@ pub record Holds (p : M.Plan) (h : Plan) : Type 0 where
   pub size : length (h .records) ≡ MOST-RECORDS
   pub rows : (k : ℕ) → getD (h .records) k blank ≡ getD (rowsOf 0 (p .records)) k blank
 
+-- the struct holds a plan without fault
+pub record Planned (h : Plan) : Type 0 where
+  pub plan : M.Plan
+  pub holds : Holds plan h
+  pub faultless : WithoutFault plan
+
 -- the area has the levels of p, then zeros; past the place of the last possible level it is as before
 pub record LevelsHeld (p : M.Plan) (before after : List ℕ) : Type 0 where
   pub long : length after ≡ length before
   pub done : (i : ℕ) → i < MOST-LEVELS-TOGETHER → getD after i 0 ≡ getD (flat (p .records)) i 0
   pub rest : (i : ℕ) → MOST-LEVELS-TOGETHER ≤ i → getD after i 0 ≡ getD before i 0
-
--- ---- the answer
-
--- 7 at place 0 for an area too short comes first; then the text
-abbrev pub heard : List ℕ → List ℕ → Reading
-heard area text = cond (leb MOST-LEVELS-TOGETHER (length area)) (R.read text) (R.refused 7 0)
-
-abbrev pub verdictOf : Reading → Verdict
-verdictOf (R.plan p) = Taken
-verdictOf (R.refused k line) = Refused k line
-
--- the number and the place of document 01, section 3; a plan is 0 at 0
-abbrev pub number : Verdict → ℕ
-number Taken = 0
-number (Refused k line) = k
-
-abbrev pub place : Verdict → ℕ
-place Taken = 0
-place (Refused k line) = line
-
--- the plan that is left in memory: the empty one after a refusal
-abbrev pub planIn : Reading → M.Plan
-planIn (R.plan p) = p
-planIn (R.refused k line) = R.empty
-
--- the answer is the reading, and memory is its image; an area too short is not written
-pub record Read (text before after : List ℕ) (r : Answer) : Type 0 where
-  pub verdict : r .verdict ≡ verdictOf (heard before text)
-  pub held : Holds (planIn (heard before text)) (r .plan)
-  pub short : length before < MOST-LEVELS-TOGETHER → after ≡ before
-  pub levels : MOST-LEVELS-TOGETHER ≤ length before → LevelsHeld (planIn (heard before text)) before after

@@ -1,3 +1,2 @@
--- The definitions that the contracts of `plan` cite: how a plan stands in memory, and what one line of a text gives.
+-- How a plan stands in memory.
 pub mod Held
-pub mod Lines

@@ -2,8 +2,8 @@
 use mathlib.Core.Path.{_≡_, sym, ap, _∙_}
 use mathlib.Core.List.{List}
 use Prim.Native.Nat.{ℕ}
-use Rattle.plan.specs.declared.Answer.{Answer}
-use Rattle.plan.proofs.Same.{one-answer}
+use Rattle.reader.specs.declared.Answer.{Answer}
+use Rattle.reader.proofs.Same.{one-answer}
 use Rattle.plan_c.specs.Asked.{Asked}
 
 -- one number and one area: for `plan_number`, `plan_place`, `plan_head` and `plan_field`, each by its own value

@@ -7,9 +7,11 @@ use lib.Dec.{eqb, ltb}
 use lib.ListN.{getD}
 use lib.IntN.{ℤ, pos}
 use Rattle.meaning.specs.Plan.{MOST-RECORDS}
+use Rattle.plan.specs.declared.Plan.{Plan}
 use Rattle.plan.specs.declared.Record.{Record}
-use Rattle.plan.specs.declared.Answer.{Answer}
-use Rattle.plan.specs.Held.{Read, number, place, blank}
+use Rattle.reader.specs.declared.Answer.{Answer}
+use Rattle.plan.specs.Held.{blank}
+use Rattle.reader.specs.Heard.{Read, number, place}
 
 -- r is what `value` takes from the reader's answer, which also says what is left in the area
 pub record Asked {A : Type 0} (text before after : List ℕ) (value : Answer → A) (r : A) : Type 0 where
@@ -24,12 +26,15 @@ abbrev pub placeIn : Answer → ℕ
 placeIn a = place (a .verdict)
 
 -- 0 events, 1 horizon, 2 records, 3 levels used; else 0
+abbrev pub headOf : ℕ → Plan → ℕ
+headOf which p =
+    cond (eqb which 0) (p .events)
+    (cond (eqb which 1) (p .horizon)
+    (cond (eqb which 2) (p .count)
+    (cond (eqb which 3) (p .used) 0)))
+
 abbrev pub headIn : ℕ → Answer → ℕ
-headIn which a =
-    cond (eqb which 0) (a .plan .events)
-    (cond (eqb which 1) (a .plan .horizon)
-    (cond (eqb which 2) (a .plan .count)
-    (cond (eqb which 3) (a .plan .used) 0)))
+headIn which a = headOf which (a .plan)
 
 -- 0 a, 1 b, 2 lo, 3 hi, 4 first, 5 count; else 0
 abbrev pub fieldOf : ℕ → Record → ℤ

@@ -10,10 +10,12 @@ use Rattle.meaning.specs.Reading.{read, split, digitsOf, numberOf, lineForm, li
 use Rattle.meaning.specs.Outcome.{refusal, over}
 use Rattle.meaning.specs.Known.{Known, bytes, table}
 use Rattle.meaning.proofs.KnownAlone.{known-alone}
-use Rattle.plan.specs.Held.{planIn}
-use Rattle.text.specs.Written.{digitsWithin, decimal}
-use Rattle.report.specs.Printed.{printed}
-use Rattle.report.specs.Answer.{AREA, Answered}
+use Rattle.reader.specs.Heard.{planIn}
+use Rattle.print.specs.Written.{digitsWithin, decimal}
+use Rattle.print.specs.Lines.{line}
+use Rattle.forms.specs.Printed.{printed}
+use Rattle.forms.specs.Put.{AREA}
+use Rattle.report.specs.Answer.{Answered}
 
 -- ---- known plans
 
@@ -45,7 +47,7 @@ OUTPUT = "solved\t4\t2\nat\t0\t0\nat\t1\t3\nat\t2\t3\nat\t3\t7\nlevel\t2\t3\nlev
 
 -- the table's outcome prints as the document shows it
 pub case-two-printed : knownForm caseTwo ≡ bytes OUTPUT
-unfolding printed digitsWithin decimal read split digitsOf numberOf lineForm lineStep peaked
+unfolding printed line digitsWithin decimal read split digitsOf numberOf lineForm lineStep peaked
 case-two-printed = refl
 
 -- and so does what `answer` leaves: these bytes at the front, all else as before, and their number is returned

@@ -1,9 +1,4 @@
--- What is true of the printed form, of bytes put into an area, and of every answer.
-pub mod Puts
-pub mod Times
-pub mod Levels
-pub mod Names
-pub mod Steps
+-- What is true of every answer.
 pub mod Outcomes
 pub mod One
 pub mod CaseTwo

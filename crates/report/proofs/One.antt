@@ -16,9 +16,10 @@ use Rattle.meaning.specs.Outcome.{Outcome, none, Right, over}
 use Rattle.meaning.proofs.ReadGood.{read-faultless}
 use Rattle.meaning.proofs.Chains.{chain-excludes}
 use Rattle.meaning.proofs.Promises.{Same, equal, chains, one-outcome}
-use Rattle.plan.specs.Held.{planIn}
-use Rattle.report.specs.Printed.{printed}
-use Rattle.report.specs.Answer.{AREA, Answered}
+use Rattle.reader.specs.Heard.{planIn}
+use Rattle.forms.specs.Printed.{printed}
+use Rattle.forms.specs.Put.{AREA}
+use Rattle.report.specs.Answer.{Answered}
 use Rattle.report.proofs.Outcomes.{none-plan}
 
 -- the form of a chain of the plan at the front, and all else as before

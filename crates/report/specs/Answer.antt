@@ -5,12 +5,9 @@ use Prim.Native.Nat.{ℕ, _≤_, _<_}
 use lib.ListN.{length}
 use Rattle.meaning.specs.Reading.{read}
 use Rattle.meaning.specs.Outcome.{Outcome, Right, over}
-use Rattle.plan.specs.Held.{planIn}
-use Rattle.report.specs.Printed.{printed}
-
--- one line `solved`, 64 lines `at` and 256 lines `level`, of at most 64 bytes each
-abbrev pub AREA : ℕ
-AREA = 20544
+use Rattle.reader.specs.Heard.{planIn}
+use Rattle.forms.specs.Printed.{printed}
+use Rattle.forms.specs.Put.{AREA}
 
 -- all but the printed form keeps its old contents
 pub record Told (text before after : List ℕ) (r : ℕ) : Type 0 where

@@ -1,6 +1,2 @@
--- What the contracts of `report` cite.
-pub mod Printed
-pub mod Put
-pub mod Rows
+-- What `report` promises.
 pub mod Answer
-pub mod Left

@@ -8,13 +8,15 @@ use Prim.Native.Nat.{ℕ, _≤_, _<_}
 use Rattle.meaning.specs.Plan.{Plan, Times, Timetable}
 use Rattle.meaning.specs.Bounds.{Chain}
 use Rattle.meaning.specs.Outcome.{number, place, Areas, longEnough}
+use Rattle.meaning.specs.Numbers.{SOLVED, NO-TIMETABLE, WRONG-FORM}
 use Rattle.meaning.specs.Known.{Known, bytes, table}
 use Rattle.meaning.specs.Demands.{Call, OnPlan, codes, Demand1, Demand2, Demand3, Optimal, Agree, Ended}
 use Rattle.meaning.proofs.Promises.{one-promise}
 use Rattle.meaning.proofs.Demands.{demand-1, demand-2, demand-3, optimal}
 use Rattle.meaning.proofs.Idle.{known-plans, refuses-no-plan, counts-steps}
+use Rattle.reader.specs.declared.Answer.{Answer}
 use Rattle.solver.specs.declared.Outcome.{Outcome as Found}
-use Rattle.solver.specs.Settled.{numberOf, placeOf, named, Solves}
+use Rattle.solver.specs.Settled.{numberOf, placeOf, named, ReadInto, Solves}
 
 -- ---- one answer only
 
@@ -22,7 +24,7 @@ use Rattle.solver.specs.Settled.{numberOf, placeOf, named, Solves}
 pub record OneAnswer (x y : Areas) (q r : Found) : Type 0 where
   pub times : x .times ≡ y .times
   pub levels : x .levels ≡ y .levels
-  pub rest : ((numberOf q ≡ 1) × (numberOf r ≡ 1)) ⊎ ((q ≡ r) × (x .chain ≡ y .chain))
+  pub rest : ((numberOf q ≡ NO-TIMETABLE) × (numberOf r ≡ NO-TIMETABLE)) ⊎ ((q ≡ r) × (x .chain ≡ y .chain))
 
 pub one-answer : {text : List ℕ} {before x y : Areas} {q r : Found} → Solves text before x q → Solves text before y r → OneAnswer x y q r
 one-answer {x = x} {y} {q} {r} a b = go (one-promise (a .promise) (b .promise))
@@ -30,9 +32,15 @@ one-answer {x = x} {y} {q} {r} a b = go (one-promise (a .promise) (b .promise))
     go : Agree x y (numberOf q) (numberOf r) (placeOf q) (placeOf r) → OneAnswer x y q r
     go g = record { times = g .times; levels = g .levels; rest = by (g .rest) }
       where
-        by : (numberOf q ≡ 1) ⊎ ((placeOf q ≡ placeOf r) × (x .chain ≡ y .chain)) → ((numberOf q ≡ 1) × (numberOf r ≡ 1)) ⊎ ((q ≡ r) × (x .chain ≡ y .chain))
+        by : (numberOf q ≡ NO-TIMETABLE) ⊎ ((placeOf q ≡ placeOf r) × (x .chain ≡ y .chain)) →
+            ((numberOf q ≡ NO-TIMETABLE) × (numberOf r ≡ NO-TIMETABLE)) ⊎ ((q ≡ r) × (x .chain ≡ y .chain))
         by (inl e) = inl (e, sym (g .numbers) ∙ e)
         by (inr e) = inr (a .variant ∙ ap₂ named (g .numbers) (e .0) ∙ sym (b .variant), e .1)
+
+-- the same for what the reader said of a text
+pub one-outcome-of : {text held : List ℕ} {answer : Answer} {before x y : Areas} {q r : Found} → ReadInto text held answer →
+    ((t : List ℕ) → ReadInto t held answer → Solves t before x q) → ((t : List ℕ) → ReadInto t held answer → Solves t before y r) → OneAnswer x y q r
+one-outcome-of {text} h a b = one-answer (a text h) (b text h)
 
 -- ---- the demands, for what `solve` returns
 
@@ -56,11 +64,11 @@ module _ (text : List ℕ) (before after : Areas) (r : Found) (s : Solves text b
     solve-optimal = optimal call p h (s .promise)
 
     -- never refused; solved where there is a timetable
-    pub solve-refuses-none : (numberOf r < 2) × ((t : Times) → Timetable p t → numberOf r ≡ 0)
+    pub solve-refuses-none : (numberOf r < WRONG-FORM) × ((t : Times) → Timetable p t → numberOf r ≡ SOLVED)
     solve-refuses-none = refuses-no-plan call p h (s .promise)
 
     -- the steps are those of a chain, 2 to n
-    pub solve-counts-steps : numberOf r ≡ 1 → (2 ≤ placeOf r) × (placeOf r ≤ p .events) × Chain p (codes call)
+    pub solve-counts-steps : numberOf r ≡ NO-TIMETABLE → (2 ≤ placeOf r) × (placeOf r ≤ p .events) × Chain p (codes call)
     solve-counts-steps = counts-steps call p h (s .promise)
 
   -- a known plan ends as the table says, its chain too

@@ -1,14 +1,15 @@
 -- From what the parts of `settle` and `solve` promise one another to the outcome of a plan, and from that to the promise.
 use mathlib.Core.Path.{_≡_, refl, sym, ap, _∙_}
-use mathlib.Core.Bool.{Bool, true, false}
+use mathlib.Core.Bool.{true, false}
 use mathlib.Core.List.{List}
 use Prim.Native.Nat.{ℕ, zero, suc, _+_, _*_, _-_, _≤_, _<_}
 use native.Mathlib.Omega.{arith}
 use lib.ListN.{length}
 use lib.IntN.{ℤ, pos}
 use Rattle.meaning.specs.Plan as M
-use Rattle.meaning.specs.Plan.{MOST-EVENTS, MOST-LEVELS-TOGETHER}
+use Rattle.meaning.specs.Plan.{MOST-EVENTS}
 use Rattle.meaning.specs.Reading.{plan, refused, read}
+use Rattle.meaning.specs.Numbers.{WRONG-FORM, AREA-TOO-SHORT}
 use Rattle.meaning.specs.Distances.{earliest}
 use Rattle.meaning.specs.Outcome as O
 use Rattle.meaning.specs.Outcome.{Areas, areas, longEnough, heard}
@@ -18,11 +19,10 @@ use Rattle.meaning.proofs.ReadGood.{read-faultless}
 use Rattle.meaning.proofs.Refusals.{refused-number}
 use Rattle.meaning.proofs.Solve.{earliest-solved}
 use Rattle.plan.specs.declared.Plan.{Plan}
-use Rattle.plan.specs.declared.Answer.{Answer}
-use Rattle.plan.specs.declared.Verdict.{Verdict}
-use Rattle.plan.specs.declared.Verdict.the-variants as Said
-use Rattle.plan.specs.Held.{Read, planIn}
-use Rattle.plan.proofs.Answers.{read-taken, read-holds, read-held}
+use Rattle.reader.specs.declared.Answer.{Answer}
+use Rattle.reader.specs.declared.Verdict.the-variants as Said
+use Rattle.reader.specs.Heard.{planIn}
+use Rattle.reader.proofs.Answers.{read-refused, read-taken, read-holds, read-held}
 use Rattle.distances.specs.Matrix.{at, Started, Timing}
 use Rattle.distances.specs.Sweep.{Swept}
 use Rattle.distances.proofs.Sweep.{swept-written}
@@ -32,7 +32,7 @@ use Rattle.bounds.specs.Listed.{Listed}
 use Rattle.bounds.specs.Tried.{Trying, Tried}
 use Rattle.ladder.specs.Climbed.{Ready, Climbed}
 use Rattle.ladder.specs.Memory.{InMemory}
-use Rattle.solver.specs.Settled.{named, heardAs, Settled, Solves}
+use Rattle.solver.specs.Settled.{named, ReadInto, Settled, Solves}
 use Rattle.solver.specs.declared.Outcome.{Outcome}
 use Rattle.solver.specs.declared.Outcome.the-variants as Out
 use Rattle.bounds.proofs.Ends.{Chained, start-trying, all-net, all-stands, clash-broken, found-chained}
@@ -46,7 +46,8 @@ horizonPlace h = 2 * (h .events - 1)
 abbrev pub lastPlace : Plan → ℕ
 lastPlace h = horizonPlace h + 2 * h .count
 
-module _ {p : M.Plan} {h : Plan} {held : List ℕ} {list : List Entry} (m : InMemory p h held) (s : Listed p list) {d : List ℤ} (o : Started (h .horizon) d) where
+module _ {p : M.Plan} {h : Plan} {held : List ℕ} {list : List Entry} (m : InMemory p h held) (s : Listed p list)
+    {d : List ℤ} (o : Started (h .horizon) d) where
   begun : Started (p .horizon) d
   begun = rw (m .holds .horizon) at o
 
@@ -108,31 +109,25 @@ module _ {p : M.Plan} {d d′ : List ℤ} {before after : List ℕ} {r : ℕ} (w
 -- ---- the promise
 
 -- a refusal is named by its number
-refusal-named : (k line : ℕ) → 2 ≤ k → Out.Refused k line ≡ named k line
+refusal-named : (k line : ℕ) → WRONG-FORM ≤ k → Out.Refused k line ≡ named k line
 refusal-named zero line h = absurd (omega arith)
 refusal-named (suc zero) line h = absurd (omega arith)
 refusal-named (suc (suc k)) line h = refl
 
--- what is heard where areas are long enough, or not, is a plan only where both are
-pub heard-taken : (long : Bool) (v : Verdict) → heardAs long v ≡ Said.Taken → (long ≡ true) × (v ≡ Said.Taken)
-heard-taken true v e = (refl, e)
-heard-taken false v e = let z : _≡_ {A = ℕ} 0 1 = cc in absurd (omega arith)
-
 module _ (text : List ℕ) (a : Areas) where
-  refused-solves : {k line : ℕ} → 2 ≤ k → heard a text ≡ refused k line → Solves text a a (Out.Refused k line)
+  refused-solves : {k line : ℕ} → WRONG-FORM ≤ k → heard a text ≡ refused k line → Solves text a a (Out.Refused k line)
   refused-solves {k} {line} l e = record {
     promise = record { outcome = O.refusal k line; right = rw e (refl, refl); numbered = refl; placed = refl; writes = refl };
     variant = refusal-named k line l;
   }
 
-  -- a refusal that is heard is the first in the order of section 3
-  pub heard-refused : (long : Bool) (v : Verdict) {k line : ℕ} → long ≡ longEnough a → (v ≡ Said.Refused k line → read text ≡ refused k line) →
-      heardAs long v ≡ Said.Refused k line → Solves text a a (Out.Refused k line)
-  heard-refused true v l f e = refused-solves (refused-number text (f e) .low) (rw (← l) (f e))
-  heard-refused false v {k} {line} l f e =
-      let n : 7 ≡ k = cc in
-      let p : 0 ≡ line = cc in
-      refused-solves (omega arith) (rw (← l, ← n, ← p))
+  -- an area is too short
+  pub short-solves : longEnough a ≡ false → Solves text a a (Out.Refused AREA-TOO-SHORT 0)
+  short-solves e = refused-solves (omega arith) (rw e)
+
+  -- the first fault of the text
+  pub fault-solves : {k line : ℕ} → longEnough a ≡ true → read text ≡ refused k line → Solves text a a (Out.Refused k line)
+  fault-solves l e = refused-solves (refused-number text e .low) (rw (l, e))
 
   pub settled-solves : longEnough a ≡ true → {p : M.Plan} {after : Areas} {r : Outcome} → read text ≡ plan p → Settled p a after r → Solves text a after r
   settled-solves l e s = record {
@@ -142,8 +137,15 @@ module _ (text : List ℕ) (a : Areas) where
 
 -- ---- what the reader leaves
 
-pub read-memory : {text before after : List ℕ} {a : Answer} → Read text before after a → MOST-LEVELS-TOGETHER ≤ length before → a .verdict ≡ Said.Taken →
-    InMemory (planIn (read text)) (a .plan) after
-read-memory {text} r l e =
-    let v = read-held r l in
-    record { holds = read-holds r l; faultless = read-faultless text (read-taken r l e); room = omega (arith, v .long); levels = v .done }
+module _ {text held : List ℕ} {a : Answer} (r : ReadInto text held a) where
+  pub read-fault : {k line : ℕ} → a .verdict ≡ Said.Refused k line → read text ≡ refused k line
+  read-fault e = read-refused (r .read) (r .room) e
+
+  module _ (e : a .verdict ≡ Said.Taken) where
+    pub read-plan : read text ≡ plan (planIn (read text))
+    read-plan = read-taken (r .read) (r .room) e
+
+    pub read-memory : InMemory (planIn (read text)) (a .plan) held
+    read-memory =
+        let v = read-held (r .read) (r .room) in
+        record { holds = read-holds (r .read) (r .room); faultless = read-faultless text read-plan; room = omega (arith, v .long, r .room); levels = v .done }

@@ -1,26 +1,26 @@
 -- The outcome as document 01 numbers it, and the outcome of a plan in memory.
 use mathlib.Core.Path.{_≡_}
-use mathlib.Core.Bool.{Bool, cond}
 use mathlib.Core.List.{List}
 use Prim.Native.Nat.{ℕ, zero, suc, _≤_}
 use lib.ListN.{length}
 use lib.IntN.{ℤ}
 use Rattle.meaning.specs.Plan as M
-use Rattle.meaning.specs.Plan.{MOST-EVENTS, MOST-RECORDS}
+use Rattle.meaning.specs.Plan.{MOST-EVENTS, MOST-RECORDS, MOST-LEVELS-TOGETHER}
 use Rattle.meaning.specs.Reading.{plan}
 use Rattle.meaning.specs.Outcome as O
 use Rattle.meaning.specs.Outcome.{Areas, Right, number, place, written, Promise}
+use Rattle.meaning.specs.Numbers.{SOLVED, NO-TIMETABLE}
 use Rattle.plan.specs.declared.Plan.{Plan}
-use Rattle.plan.specs.declared.Verdict.{Verdict}
-use Rattle.plan.specs.declared.Verdict.the-variants as Said
+use Rattle.reader.specs.declared.Answer.{Answer}
+use Rattle.reader.specs.Heard.{Read}
 use Rattle.ladder.specs.Memory.{InMemory}
 use Rattle.solver.specs.declared.Outcome.{Outcome}
 use Rattle.solver.specs.declared.Outcome.the-variants.{Solved, NoTimetable, Refused}
 
 -- the number and the place of section 3
 abbrev pub numberOf : Outcome → ℕ
-numberOf (Solved w) = 0
-numberOf (NoTimetable steps) = 1
+numberOf (Solved w) = SOLVED
+numberOf (NoTimetable steps) = NO-TIMETABLE
 numberOf (Refused k line) = k
 
 abbrev pub placeOf : Outcome → ℕ
@@ -34,9 +34,11 @@ named zero w = Solved w
 named (suc zero) steps = NoTimetable steps
 named (suc (suc k)) line = Refused (suc (suc k)) line
 
--- 7 at place 0 for an area too short comes first; then the text
-abbrev pub heardAs : Bool → Verdict → Verdict
-heardAs long v = cond long v (Said.Refused 7 0)
+-- what the reader said of the text, and the levels that it left in an area that had room for all of them
+pub record ReadInto (text held : List ℕ) (answer : Answer) : Type 0 where
+  pub before : List ℕ
+  pub room : MOST-LEVELS-TOGETHER ≤ length before
+  pub read : Read text before held answer
 
 pub record Settling (h : Plan) (held : List ℕ) (times : List ℤ) (levels chain : List ℕ) : Type 0 where
   pub plan : M.Plan

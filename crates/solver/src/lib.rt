@@ -1,13 +1,19 @@
 // The entry point with the promise: a text is read, its bounds are added, the ladder is climbed.
 ghost use mathlib.Core.Path.{_≡_};
+ghost use mathlib.Core.Bool.{true};
+ghost use mathlib.Core.List.{List};
+ghost use Prim.Native.Nat.{ℕ};
 ghost use Rattle.meaning.specs.Plan as M;
 ghost use Rattle.meaning.specs.Outcome.{Promise, areas, longEnough};
 ghost use Rattle.ladder.specs.Memory.{InMemory};
-ghost use Rattle.solver.specs.Settled.{numberOf, placeOf, heardAs, Settling, Settled, Solves};
+ghost use Rattle.solver.specs.Settled.{numberOf, placeOf, ReadInto, Settling, Settled, Solves};
 use plan::Plan;
-use plan::Verdict;
-
-const MOST_EVENTS: usize = 64;
+use reader::Answer;
+use reader::Verdict;
+use scope::AREA_TOO_SHORT;
+use scope::MOST_EVENTS;
+use scope::NO_TIMETABLE;
+use scope::SOLVED;
 
 const ENTRIES: usize = MOST_EVENTS * MOST_EVENTS;
 
@@ -47,20 +53,30 @@ fn long_enough(times: &[i64], levels: &[u8], chain: &[u16]) -> bool
     if times.len() < MOST_EVENTS {
         return false;
     }
-    if levels.len() < plan::MOST_RECORDS {
+    if levels.len() < scope::MOST_RECORDS {
         return false;
     }
     MOST_EVENTS <= chain.len()
 }
 
-// 7 for an area too short comes before what the reader says of the text.
-fn heard(long: bool, verdict: Verdict) -> Verdict
-    ensures { λ r. ⌜ r ≡ heardAs long verdict ⌝ }
+// What a text comes to, by what the reader said of it; the areas have room for any outcome. A refusal writes nothing.
+pub fn outcome_of(
+    answer: Answer,
+    held: &[u8],
+    times: &mut [i64],
+    levels: &mut [u8],
+    chain: &mut [u16],
+) -> Outcome
+    requires { ⌜ ((text : List ℕ) × ReadInto text (now held) answer) × (longEnough (areas (now times) (now levels) (now chain)) ≡ true) ⌝ }
+    ensures { λ r. ⌜ ((text : List ℕ) → ReadInto text (now (held .entry)) answer
+        → Solves text (areas (now (times .entry)) (now (levels .entry)) (now (chain .entry)))
+        (areas (now (times .exit)) (now (levels .exit)) (now (chain .exit))) r) ⌝ }
 {
-    if long {
-        return verdict;
+    let verdict = answer.verdict;
+    match verdict {
+        Verdict::Taken => settle(answer.plan, held, times, levels, chain),
+        Verdict::Refused(number, line) => Outcome::Refused(number, line),
     }
-    Verdict::Refused(7, 0)
 }
 
 // The least times of a best timetable of the plan text, and its levels; or the chain of bounds that leave no timetable; or why the text or an area is refused.
@@ -68,14 +84,12 @@ pub fn solve(text: &[u8], times: &mut [i64], levels: &mut [u8], chain: &mut [u16
     ensures { λ r. ⌜ Solves (now (text .entry)) (areas (now (times .entry)) (now (levels .entry)) (now (chain .entry)))
         (areas (now (times .exit)) (now (levels .exit)) (now (chain .exit))) r ⌝ }
 {
-    let long = long_enough(times, levels, chain);
-    let mut held = [0u8; plan::MOST_LEVELS];
-    let answer = plan::read(text, &mut held);
-    let verdict = answer.verdict;
-    match heard(long, verdict) {
-        Verdict::Taken => settle(answer.plan, &held, times, levels, chain),
-        Verdict::Refused(number, line) => Outcome::Refused(number, line),
+    if !long_enough(times, levels, chain) {
+        return Outcome::Refused(AREA_TOO_SHORT, 0);
     }
+    let mut held = [0u8; scope::MOST_LEVELS];
+    let answer = reader::read(text, &mut held);
+    outcome_of(answer, &held, times, levels, chain)
 }
 
 // The number of document 01, section 3.
@@ -83,8 +97,8 @@ pub fn number_of(outcome: Outcome) -> u8
     ensures { λ r. ⌜ r ≡ numberOf outcome ⌝ }
 {
     match outcome {
-        Outcome::Solved(_) => 0,
-        Outcome::NoTimetable(_) => 1,
+        Outcome::Solved(_) => SOLVED,
+        Outcome::NoTimetable(_) => NO_TIMETABLE,
         Outcome::Refused(number, _) => number,
     }
 }

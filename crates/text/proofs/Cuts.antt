@@ -8,9 +8,25 @@ use native.Mathlib.Omega.{arith}
 use lib.Dec.{eqb}
 use lib.ListN.{length, take, drop}
 use lib.Seq.{slice, slice-empty, length-slice, take-nil, drop-drop, take-take}
+use Rattle.bytes.specs.Bytes.{indexOf, indexAfter}
+use Rattle.bytes.specs.Bytes as B
 use Rattle.meaning.specs.Reading.{split}
 use Rattle.text.specs.Bytes.{until, after}
-use Rattle.text.proofs.Slices.{slice-step}
+use Rattle.meaning.proofs.Slices.{slice-step}
+
+-- the library's words for a search in a part of a list, and ours
+index-is : (b : ℕ) (xs : List ℕ) → indexOf b xs ≡ until b xs
+unfolding indexOf indexAfter
+index-is b [] = refl
+index-is b (x ∷ xs) = go (index-is b xs) (eqb x b) refl
+  where
+    go : indexOf b xs ≡ until b xs → (t : Bool) → eqb x b ≡ t → indexOf b (x ∷ xs) ≡ until b (x ∷ xs)
+    go ih true e = rw e
+    go ih false e = rw (e, ih)
+
+pub index-until : (b at e : ℕ) (s : List ℕ) → indexOf b (B.slice at e s) ≡ until b (slice at e s)
+unfolding B.slice
+index-until b at e s = index-is b (slice at e s)
 
 pub until-le : (b : ℕ) (xs : List ℕ) → until b xs ≤ length xs
 until-le b [] = omega arith

@@ -11,14 +11,12 @@ use lib.Dec.{leb}
 use lib.ListN.{length, getD}
 use lib.Seq.{slice, slice-empty}
 use lib.IntN.{ℤ, pos, negℤ}
-use lib.Signed.{_≤ℤ_}
 use mir.Syntax.{w32}
-use mir.Val.{toZ, SFits}
-use mir.Facts.{toZ-pos}
+use mir.Val.{SFits}
 use Rattle.ticks.proofs.Ticks.{ticks}
 use Rattle.meaning.specs.Reading.{isDigit, runFrom, digitsOf, leadingZero, numberOf, minus, plus}
 use Rattle.text.specs.Number.{numberStop, digitsStop, saysZero}
-use Rattle.text.proofs.Slices.{slice-step}
+use Rattle.meaning.proofs.Slices.{slice-step}
 
 -- ---- the value and the stop, by the first byte and what the digits say
 
@@ -81,7 +79,8 @@ pub run-small : (f : List ℕ) (v n w : ℕ) → v < 10 ^ n → runFrom v f ≡ 
 run-small [] v n w h q = let e : v ≡ w = cc in rw (add-zero) (omega arith)
 run-small (x ∷ xs) v n w h q = go (λ (a b : ℕ). run-small xs a b w) (isDigit x) refl q
   where
-    go : ((a b : ℕ) → a < 10 ^ b → runFrom a xs ≡ some w → w < 10 ^ (b + length xs)) → (b : Bool) → isDigit x ≡ b → cond b (runFrom (v * 10 + (x - 48)) xs) none ≡ some w → w < 10 ^ (n + suc (length xs))
+    go : ((a b : ℕ) → a < 10 ^ b → runFrom a xs ≡ some w → w < 10 ^ (b + length xs)) → (b : Bool) → isDigit x ≡ b
+        → cond b (runFrom (v * 10 + (x - 48)) xs) none ≡ some w → w < 10 ^ (n + suc (length xs))
     go ih false p t = let z : _≡_ {A = ℕ} 0 1 = cc in omega arith
     go ih true p t =
         let g : v * 10 + (x - 48) < 10 ^ suc n = omega (arith, isDigit-le x p) in
@@ -99,20 +98,7 @@ digits-small f w q = go (leb 1 (length f)) (leb (length f) 7) refl (not (leading
     go true false p d t = let z : _≡_ {A = ℕ} 0 1 = cc in omega arith
     go false b p d t = let z : _≡_ {A = ℕ} 0 1 = cc in omega arith
 
--- ---- a number has at most 7 digits, so it is within ±9,999,999 and fits a signed 32-bit number
+-- ---- a number has at most 7 digits, so its negative fits a signed 32-bit number
 
-pub record Small (z : ℤ) : Type 0 where
-  pub least : negℤ (pos 9999999) ≤ℤ z
-  pub most : z ≤ℤ pos 9999999
-
-pub small-fits : (z : ℤ) → Small z → SFits w32 z
-small-fits z h = omega ticks
-
-pub small-pos : (v : ℕ) → v < 10000000 → Small (pos v)
-small-pos v h = record { least = omega ticks; most = omega ticks }
-
-pub small-neg : (v : ℕ) → v < 10000000 → Small (negℤ (pos v))
-small-neg v h = record { least = omega ticks; most = omega ticks }
-
-pub pos-bits : (v : ℕ) → v < 10000000 → toZ w32 v ≡ pos v
-pos-bits v h = toZ-pos w32 (omega arith)
+pub small-neg : (v : ℕ) → v < 10000000 → SFits w32 (negℤ (pos v))
+small-neg v h = omega ticks

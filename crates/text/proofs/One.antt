@@ -1,5 +1,5 @@
--- Any two results that satisfy a promise of this crate are equal. A promise `r ≡ …` says so itself; here are the two of other forms: bytes that were
--- written, and the number that was read or the place where reading stopped.
+-- Any two results that satisfy a promise of this crate are equal. A promise `r ≡ …` says so itself; here is the one of another form: the number that
+-- was read or the place where reading stopped.
 use mathlib.Core.Path.{_≡_, sym, ap, _∙_}
 use mathlib.Core.List.{List}
 use Prim.Native.Nat.{ℕ}
@@ -7,11 +7,6 @@ use native.Mathlib.Omega.{arith}
 use Rattle.text.specs.declared.Number.{Number}
 use Rattle.text.specs.declared.Number.the-variants.{Value, Stopped}
 use Rattle.text.specs.Answers.{numberAs, numberPlace, NumberRead}
-use Rattle.text.specs.Written.{Wrote}
-
--- the same bytes written at the same place end at the same place and leave the same area
-pub one-wrote : {before x y : List ℕ} {at m n : ℕ} {bytes : List ℕ} → Wrote before x at m bytes → Wrote before y at n bytes → (m ≡ n) × (x ≡ y)
-one-wrote a b = (a .ends ∙ sym (b .ends), a .holds ∙ sym (b .holds))
 
 -- the number, or none, and the place are all that an answer says
 same-number : (end : ℕ) (q r : Number) → numberAs q ≡ numberAs r → numberPlace end q ≡ numberPlace end r → q ≡ r

@@ -11,7 +11,7 @@ use lib.ListN.{length, getD}
 use lib.Seq.{slice, slice-empty, length-slice}
 use Rattle.meaning.specs.Reading.{runFrom, digitsOf, leadingZero}
 use Rattle.text.specs.Number.{runStop, digitsStop}
-use Rattle.text.proofs.Slices.{slice-step}
+use Rattle.meaning.proofs.Slices.{slice-step}
 
 module _ (s : List ℕ) (i e : ℕ) (h : i < e) (k : e ≤ length s) (v : ℕ) where
   pub run-low : getD s i 0 < 48 → runFrom v (slice i e s) ≡ none

@@ -12,7 +12,7 @@ use lib.Seq.{slice, slice-empty, drop-cons, drop-length}
 use Rattle.meaning.specs.Reading.{same, EVENTS, RULE, WISH}
 use Rattle.text.specs.Words.{wordOf}
 use Rattle.text.specs.declared.Word.the-variants.{Events, Rule, Wish, Other}
-use Rattle.text.proofs.Slices.{slice-step}
+use Rattle.meaning.proofs.Slices.{slice-step}
 
 pub same-length : (x y : List ℕ) → (length x ≡ length y → ⊥) → same x y ≡ false
 same-length [] [] h = absurd (h refl)

@@ -3,4 +3,3 @@ pub mod Bytes
 pub mod Number
 pub mod Answers
 pub mod Words
-pub mod Written

@@ -1,17 +1,12 @@
-// Numbers, words, lines and fields in a slice of bytes. What reads them looks at the bytes from `at` up to `end`; what writes them
-// begins at the place `at` and answers the place after.
+// Numbers and words read from a slice of bytes: what stands from `at` up to `end`.
 ghost use mathlib.Core.Path.{_≡_};
-ghost use mathlib.Core.List.{[], _∷_};
-ghost use Prim.Native.Nat.{_+_, _≤_, _<_};
-ghost use lib.IntN.{pos, natAbs};
-ghost use lib.Signed.{_<ℤ_};
+ghost use Prim.Native.Nat.{_+_, _≤_};
 ghost use lib.ListN.{length};
 ghost use lib.Seq.{slice};
 ghost use Rattle.text.specs.Bytes.{until};
-ghost use Rattle.meaning.specs.Reading.{TAB, same, runFrom, digitsOf};
+ghost use Rattle.meaning.specs.Reading.{same, runFrom, digitsOf};
 ghost use Rattle.text.specs.Words.{wordOf};
 ghost use Rattle.text.specs.Answers.{digitsAs, digitsPlace, NumberRead};
-ghost use Rattle.text.specs.Written.{decimal, decimalZ, Wrote};
 ghost use Rattle.text.specs.Number.{runStop, digitsStop};
 
 // The place of the first byte b of s from at up to end; end where there is none.
@@ -19,50 +14,40 @@ pub fn find(s: &[u8], at: usize, end: usize, b: u8) -> usize
     requires { ⌜ (at ≤ end) × (end ≤ length (now s)) ⌝ }
     ensures { λ r. ⌜ r ≡ at + until b (slice at end (now (s .entry))) ⌝ }
 {
-    let mut i = at;
-    while i < end {
-        if s[i] == b {
-            return i;
-        }
-        i += 1;
-    }
-    i
+    bytes::scan::find(s, at, end, b)
 }
+
+// The digits of a number are 1 to 7.
+const MOST_DIGITS: usize = 7;
 
 // What a run of digits says: its value, or the place where reading stopped.
 enum Digits {
-    Value(u32),
+    Value(usize),
     Stopped(usize),
 }
 
-// The value of at most 7 digits.
+// The value of at most that many digits.
 fn digit_run(s: &[u8], at: usize, end: usize) -> Digits
     requires { ⌜ (at ≤ end) × (end ≤ length (now s)) × (end ≤ at + 7) ⌝ }
     ensures { λ r. ⌜ (digitsAs r ≡ runFrom 0 (slice at end (now (s .entry)))) × (digitsPlace end r ≡ at + runStop (slice at end (now (s .entry)))) ⌝ }
 {
-    let mut v: u32 = 0;
+    let mut v = 0;
     let mut i = at;
     while i < end {
         let b = s[i];
-        if b < 48 {
+        if b < b'0' {
             return Digits::Stopped(i);
         }
-        if 57 < b {
+        if b'9' < b {
             return Digits::Stopped(i);
         }
-        v = v * 10 + wide(b - 48);
+        v = v * 10 + widths::from_u8(b - b'0');
         i += 1;
     }
     Digits::Value(v)
 }
 
-fn wide(x: u8) -> u32
-    ensures { λ r. ⌜ r ≡ x ⌝ }
-{
-    x as u32
-}
-
-// 1 to 7 digits, with no leading zero except in 0 itself.
+// The digits of a number, with no leading zero except in 0 itself.
 fn read_digits(s: &[u8], at: usize, end: usize) -> Digits
     requires { ⌜ (at ≤ end) × (end ≤ length (now s)) ⌝ }
     ensures { λ r. ⌜ (digitsAs r ≡ digitsOf (slice at end (now (s .entry)))) × (digitsPlace end r ≡ at + digitsStop (slice at end (now (s .entry)))) ⌝ }
@@ -71,10 +56,10 @@ fn read_digits(s: &[u8], at: usize, end: usize) -> Digits
     if n < 1 {
         return Digits::Stopped(at);
     }
-    if 7 < n {
-        return Digits::Stopped(at + 7);
+    if MOST_DIGITS < n {
+        return Digits::Stopped(at + MOST_DIGITS);
     }
-    if s[at] == 48 {
+    if s[at] == b'0' {
         if 1 < n {
             return Digits::Stopped(at + 1);
         }
@@ -95,20 +80,20 @@ pub fn read_number(s: &[u8], at: usize, end: usize) -> Number
     if at == end {
         return Number::Stopped(at);
     }
-    if s[at] == 45 {
+    if s[at] == b'-' {
         match read_digits(s, at + 1, end) {
             Digits::Value(v) => {
                 if v == 0 {
                     Number::Stopped(at + 1)
                 } else {
-                    Number::Value(ticks::minus(v as i32))
+                    Number::Value(ticks::minus(widths::to_i32(v)))
                 }
             }
             Digits::Stopped(p) => Number::Stopped(p),
         }
     } else {
         match read_digits(s, at, end) {
-            Digits::Value(v) => Number::Value(v as i32),
+            Digits::Value(v) => Number::Value(widths::to_i32(v)),
             Digits::Stopped(p) => Number::Stopped(p),
         }
     }
@@ -153,76 +138,4 @@ pub fn read_word(s: &[u8], at: usize, end: usize) -> Word
         return Word::Wish;
     }
     Word::Other
-}
-
-// One byte at a place; the place after it.
-pub fn put_byte(out: &mut [u8], at: usize, b: u8) -> usize
-    requires { ⌜ at < length (now out) ⌝ }
-    ensures { λ r. ⌜ Wrote (now (out .entry)) (now (out .exit)) at r (b ∷ []) ⌝ }
-{
-    out[at] = b;
-    at + 1
-}
-
-// The digit of a number below 10.
-fn digit(d: u64) -> u8
-    requires { ⌜ d < 10 ⌝ }
-    ensures { λ r. ⌜ r ≡ 48 + d ⌝ }
-{
-    48 + d as u8
-}
-
-// The decimal digits of a number; the place after them.
-pub fn put_digits(out: &mut [u8], at: usize, n: u64) -> usize
-    requires { ⌜ at + length (decimal n) ≤ length (now out) ⌝ }
-    ensures { λ r. ⌜ Wrote (now (out .entry)) (now (out .exit)) at r (decimal n) ⌝ }
-{
-    if n < 10 {
-        put_byte(out, at, digit(n))
-    } else {
-        let next = put_digits(out, at, n / 10);
-        put_byte(out, next, digit(n % 10))
-    }
-}
-
-// How far a negative number lies below zero.
-fn magnitude(z: i64) -> u64
-    requires { ⌜ z <ℤ pos 0 ⌝ }
-    ensures { λ r. ⌜ r ≡ natAbs z ⌝ }
-{
-    let less = -(z + 1);
-    less as u64 + 1
-}
-
-// A whole number; the place after it.
-pub fn put_number(out: &mut [u8], at: usize, z: i64) -> usize
-    requires { ⌜ at + length (decimalZ z) ≤ length (now out) ⌝ }
-    ensures { λ r. ⌜ Wrote (now (out .entry)) (now (out .exit)) at r (decimalZ z) ⌝ }
-{
-    if z < 0 {
-        let next = put_byte(out, at, b'-');
-        put_digits(out, next, magnitude(z))
-    } else {
-        put_digits(out, at, z as u64)
-    }
-}
-
-// The bytes of a word; the place after them.
-pub fn put_word(out: &mut [u8], at: usize, word: &[u8]) -> usize
-    requires { ⌜ at + length (now word) ≤ length (now out) ⌝ }
-    ensures { λ r. ⌜ Wrote (now (out .entry)) (now (out .exit)) at r (now (word .entry)) ⌝ }
-{
-    for i in 0..word.len() {
-        out[at + i] = word[i];
-    }
-    at + word.len()
-}
-
-// A tab and a whole number; the place after them.
-pub fn put_field(out: &mut [u8], at: usize, z: i64) -> usize
-    requires { ⌜ at + length (TAB ∷ decimalZ z) ≤ length (now out) ⌝ }
-    ensures { λ r. ⌜ Wrote (now (out .entry)) (now (out .exit)) at r (TAB ∷ decimalZ z) ⌝ }
-{
-    let next = put_byte(out, at, b'\t');
-    put_number(out, next, z)
 }

@@ -1,2 +1,3 @@
 -- The kit for signed numbers: laws and the ruleset.
 pub mod Ticks
+pub mod Shown

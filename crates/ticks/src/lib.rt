@@ -25,7 +25,7 @@ pub fn minus(x: i32) -> i32
 pub fn minus_wide(x: i32) -> i64
     ensures { λ r. ⌜ r ≡ negℤ x ⌝ }
 {
-    -(x as i64)
+    -widths::widen(x)
 }
 
 pub fn less(x: i32, y: i32) -> bool

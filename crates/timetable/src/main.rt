@@ -5,11 +5,11 @@ use libc::STDIN_FILENO;
 use libc::STDOUT_FILENO;
 
 // One byte more than a text may have: a longer one is refused for its length, whatever the rest of it says.
-const ENOUGH: usize = plan::MOST_BYTES + 1;
+const ENOUGH: usize = scope::MOST_BYTES + 1;
 
 // The outcome of a text goes to standard output. A disk may say only when the file is closed that it is full.
 fn print(text: &[u8]) {
-    let mut out = [0u8; report::AREA];
+    let mut out = [0u8; forms::AREA];
     let m = report::answer(text, &mut out);
     if !io::write_all(STDOUT_FILENO, &out[..m]) {
         os::fail(b"standard output");

@@ -18,17 +18,17 @@ nothing-requires c κs = tt
 loop-holds : tie.Need-loop-holds Inv-loop μ-loop
 loop-holds c = (omega arith, omega arith, horizon-none (c .before .args .h) (c .nothing .ensures))
 
+sub-i : tie.Need-sub-i Inv-loop μ-loop
+sub-i c = omega arith
+
+mul-i : tie.Need-mul-i Inv-loop μ-loop
+mul-i c = omega arith
+
 horizon-upper-requires : tie.Need-horizon-upper-requires Inv-loop μ-loop
 horizon-upper-requires c κs = (omega arith, omega arith)
 
 mul-list : tie.Need-mul-list Inv-loop μ-loop
 mul-list c = omega arith
-
-sub-list : tie.Need-sub-list Inv-loop μ-loop
-sub-list c = omega arith
-
-mul-list-2 : tie.Need-mul-list-2 Inv-loop μ-loop
-mul-list-2 c = omega arith
 
 array-set-from-list : tie.Need-array-set-from-list Inv-loop μ-loop
 array-set-from-list c = omega arith
@@ -36,14 +36,11 @@ array-set-from-list c = omega arith
 horizon-lower-requires : tie.Need-horizon-lower-requires Inv-loop μ-loop
 horizon-lower-requires c κs = omega arith
 
-mul-list-3 : tie.Need-mul-list-3 Inv-loop μ-loop
-mul-list-3 c = omega arith
+add-list : tie.Need-add-list Inv-loop μ-loop
+add-list c = omega arith
 
-sub-list-2 : tie.Need-sub-list-2 Inv-loop μ-loop
-sub-list-2 c = omega arith
-
-mul-list-4 : tie.Need-mul-list-4 Inv-loop μ-loop
-mul-list-4 c = omega arith
+mul-list-2 : tie.Need-mul-list-2 Inv-loop μ-loop
+mul-list-2 c = omega arith
 
 array-set-from-list-2 : tie.Need-array-set-from-list-2 Inv-loop μ-loop
 array-set-from-list-2 c = omega arith
@@ -72,15 +69,14 @@ horizon-bounds-spec =
     μ-loop
     nothing-requires
     loop-holds
+    sub-i
+    mul-i
     horizon-upper-requires
     mul-list
-    sub-list
-    mul-list-2
     array-set-from-list
     horizon-lower-requires
-    mul-list-3
-    sub-list-2
-    mul-list-4
+    add-list
+    mul-list-2
     array-set-from-list-2
     add-e
     loop-less

@@ -12,14 +12,14 @@ use Rattle.bounds.proofs.record_lower.Tie as tie
 minus-requires : tie.Need-minus-requires
 minus-requires c κs = search needs
 
-mul-as-code : tie.Need-mul-as-code
-mul-as-code c = search needs
+mul-to-u16 : tie.Need-mul-to-u16
+mul-to-u16 c = search needs
 
-add-as-code : tie.Need-add-as-code
-add-as-code c = search needs
+add-to-u16 : tie.Need-add-to-u16
+add-to-u16 c = search needs
 
-as-code-requires : tie.Need-as-code-requires
-as-code-requires c κs = search needs
+to-u16-requires : tie.Need-to-u16-requires
+to-u16-requires c κs = search needs
 
 -- what `minus` returned, read back
 negative : (c : tie.After-minus) → toZ w32 (ofZ w32 (c .minus .result)) ≡ negℤ (c .before .before .args .r .lo)
@@ -30,7 +30,7 @@ negative c =
 returns : tie.Need-returns
 returns c =
     let r = c .before .before .before .args .r in
-    ap₂ (λ (q : ℕ) (w : ℤ). record { start = r .b; «end» = r .a; code = q; weight = w }) (c .as-code .ensures) (negative (c .before))
+    ap₂ (λ (q : ℕ) (w : ℤ). record { start = r .b; «end» = r .a; code = q; weight = w }) (c .to-u16 .ensures) (negative (c .before))
 
 pub record-lower-spec : {M : Type 1} → statement M
-record-lower-spec = tie.close (tie.spec minus-requires mul-as-code add-as-code as-code-requires returns)
+record-lower-spec = tie.close (tie.spec minus-requires mul-to-u16 add-to-u16 to-u16-requires returns)

@@ -24,35 +24,31 @@ mul-r c = omega arith
 element-copy-out-r : tie.Need-element-copy-out-r Inv-loop μ-loop
 element-copy-out-r c = omega (arith, c .before .before .pre .room)
 
+mul-i : tie.Need-mul-i Inv-loop μ-loop
+mul-i c = omega arith
+
+add-i : tie.Need-add-i Inv-loop μ-loop
+add-i c = omega arith
+
 record-upper-requires : tie.Need-record-upper-requires Inv-loop μ-loop
 record-upper-requires c κs = omega arith
 
 mul-all : tie.Need-mul-all Inv-loop μ-loop
 mul-all c = omega arith
 
+array-set-from-all : tie.Need-array-set-from-all Inv-loop μ-loop
+array-set-from-all c = omega arith
+
+record-lower-requires : tie.Need-record-lower-requires Inv-loop μ-loop
+record-lower-requires c κs =
+    let l = c .before .before .before in
+    (omega arith, row-fits (l .before .pre .planned) (l .loop .k) (omega arith))
+
 add-all : tie.Need-add-all Inv-loop μ-loop
 add-all c = omega arith
 
 mul-all-2 : tie.Need-mul-all-2 Inv-loop μ-loop
 mul-all-2 c = omega arith
-
-array-set-from-all : tie.Need-array-set-from-all Inv-loop μ-loop
-array-set-from-all c = omega arith
-
-record-lower-requires : tie.Need-record-lower-requires Inv-loop μ-loop
-record-lower-requires c κs = (omega arith, row-fits (c .before .before .before .before .pre .planned) (c .before .before .before .loop .k) (omega arith))
-
-mul-all-3 : tie.Need-mul-all-3 Inv-loop μ-loop
-mul-all-3 c = omega arith
-
-add-all-2 : tie.Need-add-all-2 Inv-loop μ-loop
-add-all-2 c = omega arith
-
-add-all-3 : tie.Need-add-all-3 Inv-loop μ-loop
-add-all-3 c = omega arith
-
-mul-all-4 : tie.Need-mul-all-4 Inv-loop μ-loop
-mul-all-4 c = omega arith
 
 array-set-from-all-2 : tie.Need-array-set-from-all-2 Inv-loop μ-loop
 array-set-from-all-2 c = omega arith
@@ -65,11 +61,12 @@ loop-less c = omega arith
 
 loop-again : tie.Need-loop-again Inv-loop μ-loop
 loop-again c =
-    let k = c .before .before .before .before .loop .k in (
+    let l = c .before .before .before .before in
+    let k = l .loop .k in (
       omega arith,
-      λ p s. let l : k < length (p .records) = omega (arith, s .count) in
+      λ p s. let small : k < length (p .records) = omega (arith, s .count) in
           rw (c .before .record-upper .ensures, c .record-lower .ensures)
-          (records-next _ (c .before .before .before .before .loop .inv .1 p s) l (omega (arith, c .before .before .before .before .before .pre .room)) (held-row s k)),
+          (records-next _ (l .loop .inv .1 p s) small (omega (arith, l .before .pre .room)) (held-row s k)),
     )
 
 returns : tie.Need-returns Inv-loop μ-loop
@@ -84,16 +81,14 @@ with-records-spec =
     loop-holds
     mul-r
     element-copy-out-r
+    mul-i
+    add-i
     record-upper-requires
     mul-all
-    add-all
-    mul-all-2
     array-set-from-all
     record-lower-requires
-    mul-all-3
-    add-all-2
-    add-all-3
-    mul-all-4
+    add-all
+    mul-all-2
     array-set-from-all-2
     add-k
     loop-less

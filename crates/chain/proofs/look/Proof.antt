@@ -1,33 +1,50 @@
 -- `chain::look` marks an event or leaves all as it is: each return is one of the two cases of `Look`.
 use borrow.Author.Needs.{needs}
 use borrow.Author.Tests.{not-true, not-false}
-use mathlib.Core.Path.{refl, sym, _∙_}
-use mir.Facts.{toZ-ofZ}
+use mathlib.Core.Path.{_≡_, refl, sym, ap, _∙_}
+use Rattle.eventset.specs.Sets.{bitsOf, member, putIn}
 use Rattle.chain.specs.Marks.Look.{kept, marked}
 use Rattle.chain.proofs.Marks.{not-both}
 use Rattle.chain.proofs.look.Statement.{statement}
 use Rattle.chain.proofs.look.Tie as tie
 
+from-u8-requires : tie.Need-from-u8-requires
+from-u8-requires c κs = search needs
+
+from-u8-requires-2 : tie.Need-from-u8-requires-2
+from-u8-requires-2 c κs = search needs
+
 has-requires : tie.Need-has-requires
 has-requires c κs = search needs
 
+-- the first test asks for the bound's start, the second for its end
+abbrev start : tie.After-from-u82 → tie.Start
+start c = c .before .before .before
+
+start-told : (c : tie.After-has) →
+    let s = start (c .before) .args in
+    c .has .result ≡ member (bitsOf (s .seen)) (s .b .start)
+start-told c = rw (c .before .before .from-u8 .ensures) at (c .has .ensures)
+
+end-told : (c : tie.After-has2) →
+    let s = start (c .before .before .before) .args in
+    c .has2 .result ≡ member (bitsOf (s .seen)) (s .b .«end»)
+end-told c = rw (c .before .before .before .from-u82 .ensures) at (c .has2 .ensures)
+
 returns : tie.Need-returns
-returns c = kept refl refl (λ t h. sym (c .before .has .ensures) ∙ c .if1 .taken)
+returns c = kept refl refl (λ t h. sym (start-told (c .before)) ∙ c .if1 .taken)
 
 has-requires-2 : tie.Need-has-requires-2
 has-requires-2 c κs = search needs
 
 returns-2 : tie.Need-returns-2
-returns-2 c = kept refl refl (λ t h. absurd (not-both h (sym (c .before .has2 .ensures) ∙ not-true _ (c .if2 .taken))))
+returns-2 c = kept refl refl (λ t h. absurd (not-both h (sym (end-told (c .before)) ∙ not-true _ (c .if2 .taken))))
 
 tight-requires : tie.Need-tight-requires
-tight-requires c κs = let s = c .before .before .before .before .before in rw (toZ-ofZ (s .fits .weight)) (s .pre .0)
+tight-requires c κs = search needs
 
 returns-3 : tie.Need-returns-3
-returns-3 c =
-    let s = c .before .before .before .before .before .before .before in
-    let t = rw (toZ-ofZ (s .fits .weight)) at (c .before .tight .ensures) in
-    kept refl refl (λ g h. absurd (t .left (not-true _ (c .if3 .taken)) g))
+returns-3 c = kept refl refl (λ g h. absurd (c .before .tight .ensures .left (not-true _ (c .if3 .taken)) g))
 
 note-requires : tie.Need-note-requires
 note-requires c κs = search needs
@@ -38,24 +55,31 @@ put-requires c κs = search needs
 same-length : tie.Need-same-length
 same-length c = search needs
 
+-- where both tests were passed, and where the bound is tight
+abbrev tested : tie.Else3 → tie.After-has2
+tested c = c .before .before .before
+
+abbrev noting : tie.After-put → tie.Else3
+noting c = let n = c .before .before .before in n .before .before
+
 returns-4 : tie.Need-returns-4
 returns-4 c =
-    let e = c .before .before .before .before .before in
-    let p = e .before in
-    let q = p .before .before in
-    let s = q .before .before .before .before in
-    let t = rw (toZ-ofZ (s .fits .weight)) at (p .tight .ensures) in
+    let e = noting c in
+    let q = tested e in
+    let f = q .before .before .before in
     marked
-    (sym (q .before .before .has .ensures) ∙ q .before .if1 .left)
-    (sym (q .has2 .ensures) ∙ not-false _ (p .before .if2 .left))
-    (t .taken (not-false _ (e .if3 .left)))
-    (c .put .ensures)
+    (sym (start-told (q .before .before)) ∙ q .before .if1 .left)
+    (sym (end-told q) ∙ not-false _ (e .before .before .if2 .left))
+    (e .before .tight .ensures .taken (not-false _ (e .if3 .left)))
+    (c .put .ensures ∙ ap (putIn (bitsOf (start f .args .seen))) (f .before .from-u8 .ensures))
     (c .before .before .before .note .ensures)
 
 pub look-spec : {M : Type 1} → statement M
 look-spec =
     tie.close
     (tie.spec
+    from-u8-requires
+    from-u8-requires-2
     has-requires
     returns
     has-requires-2

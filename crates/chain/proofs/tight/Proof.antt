@@ -6,9 +6,9 @@ use mathlib.Core.Bool.{Bool, true, false, _&&_}
 use lib.IntN.{ℤ, pos, negℤ, _+ℤ_}
 use lib.Signed.{leZ}
 use mir.Syntax.{w32}
-use mir.Val.{SFits}
-use mir.Facts.{toZ-ofZ}
+use mir.Val.{SFits, toZ, ofZ}
 use Rattle.ticks.proofs.Ticks.{back, ticks}
+use Rattle.distances.specs.Matrix.{at}
 use Rattle.meaning.specs.Plan.{MOST-HORIZON, MOST-END, Within}
 use Rattle.chain.specs.Marks.{Decided}
 use Rattle.chain.proofs.Marks.{not-both}
@@ -31,14 +31,31 @@ decided x y e = record { taken = λ t. same (leZ x y) (leZ y x) refl refl (sym e
     differ true false p q h w = omega ticks
     differ true true p q h w = not-both refl h
 
+from-u8-requires : tie.Need-from-u8-requires
+from-u8-requires c κs = search needs
+
+from-u8-requires-2 : tie.Need-from-u8-requires-2
+from-u8-requires-2 c κs = search needs
+
 distance-requires : tie.Need-distance-requires
 distance-requires c κs = search needs
 
+-- the two parts of the sum, read back: the bound's weight, and the distance from its end to a
+weight-back : (c : tie.After-struct-told) →
+    let w = c .before .before .before .before .args .b .weight in
+    toZ w32 (ofZ w32 w) ≡ w
+weight-back c = back w32 (c .before .before .before .before .args .b .weight) (c .struct-told .given .1 .1 .1 .0 .1)
+
+far-back : (c : tie.After-distance) →
+    let s = c .before .before .before .args in
+    toZ w32 (ofZ w32 (c .distance .result)) ≡ at (s .d .now) (s .b .«end») (s .a)
+far-back c = back w32 (c .distance .result) (c .distance .ok) ∙ (rw (c .before .from-u82 .ensures) at (c .distance .ensures))
+
 plus-requires : tie.Need-plus-requires
 plus-requires c κs =
-    let p = c .before .pre in
-    rw (toZ-ofZ (c .before .fits .w), back w32 (c .distance .result) (c .distance .ok), c .distance .ensures)
-    (sum-fits (p .fit .weight) (p .table .near (c .before .args .v) (c .before .args .a) (p .fit .end) (p .to)))
+    let s = c .before .before .before .before in
+    rw (weight-back c, far-back (c .before))
+    (sum-fits (s .pre .fit .weight) (s .pre .table .near (s .args .b .«end») (s .args .a) (s .pre .fit .end) (s .pre .to)))
 
 distance-requires-2 : tie.Need-distance-requires-2
 distance-requires-2 c κs = search needs
@@ -48,14 +65,14 @@ equal-requires c κs = search needs
 
 returns : tie.Need-returns
 returns c =
-    let s = c .before .before .before .before in
-    let v = c .before .before .before .distance in
-    let p = c .before .before .plus in
     let u = c .before .distance2 in
-    let sum = rw (toZ-ofZ (s .fits .w), back w32 (v .result) (v .ok), v .ensures) at (p .ensures) in
-    let test = rw (back w32 (u .result) (u .ok), back w32 (p .result) (p .ok), u .ensures, sum) at (c .equal .ensures) in
-    decided _ _ test
+    let p = c .before .before .plus in
+    let t = c .before .before .before in
+    let start = t .before .before .before .from-u8 .ensures in
+    let sum = rw (weight-back t, far-back (t .before)) at (p .ensures) in
+    let from = rw start at (u .ensures) in
+    decided _ _ (rw (back w32 (u .result) (u .ok), back w32 (p .result) (p .ok), from, sum) at (c .equal .ensures))
 
 pub tight-spec : {M : Type 1} → statement M
 tight-spec =
-    tie.close (tie.spec distance-requires plus-requires distance-requires-2 equal-requires returns)
+    tie.close (tie.spec from-u8-requires from-u8-requires-2 distance-requires plus-requires distance-requires-2 equal-requires returns)

@@ -22,7 +22,8 @@ plus-requires c κs =
     let e = c .distance in
     let s = c .before .before in
     let p = s .pre in
-    simp (back w32 (e .result) (e .ok), toZ-ofZ (s .fits .w)) (rw (e .ensures) (nearby-fits _ (nearby _ _ (net-near (p .net) _ _ (p .to) (p .from)) (p .weight))))
+    simp (back w32 (e .result) (e .ok), toZ-ofZ (s .fits .w))
+    (rw (e .ensures) (nearby-fits _ (nearby _ _ (net-near (p .net) _ _ (p .to) (p .from)) (p .weight))))
 
 at-most-requires : tie.Need-at-most-requires
 at-most-requires c κs = search needs
@@ -35,9 +36,13 @@ test c =
     let sum = rw (e .ensures) at (simp (back w32 (e .result) (e .ok), toZ-ofZ (c .before .before .before .before .fits .w)) at (p .ensures)) in
     rw (back w32 (p .result) (p .ok), sum) at (c .at-most .ensures)
 
+abbrev start : tie.Then1 → tie.Start
+start c = let tested = c .before in tested .before .before .before .before
+
 tighten-requires : tie.Need-tighten-requires
 tighten-requires c κs =
-    let s = c .before .before .before .before .before .before in
+    let t = c .before in
+    let s = start t in
     rw (toZ-ofZ (s .fits .w)) (s .pre)
 
 same-length : tie.Need-same-length
@@ -46,7 +51,7 @@ same-length c = search needs
 returns : tie.Need-returns
 returns c =
     let t = c .before .before .before in
-    let s = t .before .before .before .before .before in
+    let s = start t in
     let p = s .pre in
     let changed = rw (toZ-ofZ (s .fits .w)) at (c .before .tighten .ensures) in
     let ok = sym (t .if1 .taken) ∙ test (t .before) in

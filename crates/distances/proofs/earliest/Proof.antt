@@ -46,7 +46,8 @@ loop-again c =
     let e = c .before .distance in
     let l = c .before .before .before .loop in (
       omega arith,
-      swept-more (l .e) _ (l .inv .1) (omega arith) (omega arith) (back w64 (m .result) (m .ok) ∙ m .ensures ∙ ap negℤ (back w32 (e .result) (e .ok) ∙ e .ensures)),
+      swept-more (l .e) _ (l .inv .1) (omega arith) (omega arith)
+          (back w64 (m .result) (m .ok) ∙ m .ensures ∙ ap negℤ (back w32 (e .result) (e .ok) ∙ e .ensures)),
     )
 
 same-length : tie.Need-same-length Inv-loop μ-loop

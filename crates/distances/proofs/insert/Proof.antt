@@ -33,11 +33,16 @@ loop-holds c = record { most = omega arith; rows = rows-none; long = c .before .
 slice-aggregate-insert-row : tie.Need-slice-aggregate-insert-row Inv-loop μ-loop
 slice-aggregate-insert-row c = sym (c .before .before .before .loop .inv .long)
 
+-- the start of the function, from the loop
+abbrev start : tie.At-loop Inv-loop μ-loop → tie.Start Inv-loop μ-loop
+start c = let copied = c .before .before in copied .before .before .before
+
 insert-row-requires : tie.Need-insert-row-requires Inv-loop μ-loop
 insert-row-requires c κs =
-    let inv = c .before .before .before .loop .inv in
-    let t = c .before .before .loop-test .taken in
-    let s = c .before .before .before .before .before .before .before .before in
+    let turn = c .before .before in
+    let inv = turn .before .loop .inv in
+    let t = turn .loop-test .taken in
+    let s = start (turn .before) in
     let net = s .pre .net in
     record {
       size = inv .rows .long ∙ net .size;
@@ -60,15 +65,17 @@ loop-less c = omega arith
 
 loop-again : tie.Need-loop-again Inv-loop μ-loop
 loop-again c =
-    let l = c .before .before .before .before .before in
-    one-more (l .before .before .before .before .before .pre .net .events) (c .before .before .before .before .loop-test .taken) (l .loop .inv) (c .before .insert-row .ensures)
+    let turn = c .before .before .before .before in
+    let l = turn .before in
+    one-more (start l .pre .net .events) (turn .loop-test .taken) (l .loop .inv) (c .before .insert-row .ensures)
 
 same-length : tie.Need-same-length Inv-loop μ-loop
 same-length c = c .before .loop .inv .rows .long
 
 returns : tie.Need-returns Inv-loop μ-loop
 returns c =
-    rw (toZ-ofZ (c .before .before .before .before .before .before .fits .w)) at (rows-all (c .before .loop .inv .rows) (c .before .loop .inv .most) (omega arith))
+    let l = c .before in
+    rw (toZ-ofZ (start l .fits .w)) at (rows-all (l .loop .inv .rows) (l .loop .inv .most) (omega arith))
 
 pub insert-spec : {M : Type 1} → statement M
 insert-spec =

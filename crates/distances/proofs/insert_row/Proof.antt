@@ -35,11 +35,15 @@ less-requires c κs = search needs
 sum : (c : tie.After-plus) → let s = c .before .before .before .args in toZ w32 (ofZ w32 (c .plus .result)) ≡ at (now (s .d)) (s .i) (s .a) +ℤ s .w
 sum c =
     let e = c .before .distance in
-    back w32 (c .plus .result) (c .plus .ok) ∙ (rw (e .ensures) at (simp (back w32 (e .result) (e .ok), toZ-ofZ (c .before .before .before .fits .w)) at (c .plus .ensures)))
+    let w = toZ-ofZ (c .before .before .before .fits .w) in
+    back w32 (c .plus .result) (c .plus .ok) ∙ (rw (e .ensures) at (simp (back w32 (e .result) (e .ok), w) at (c .plus .ensures)))
+
+abbrev tested : tie.Then1 → tie.After-plus
+tested c = c .before .before .before .before
 
 lower-row-requires : tie.Need-lower-row-requires
 lower-row-requires c κs =
-    let plussed = c .before .before .before .before .before in
+    let plussed = tested (c .before) in
     let s = plussed .before .before .before in
     record {
       size = s .pre .size;
@@ -54,7 +58,7 @@ same-length : tie.Need-same-length
 same-length c = search needs
 
 returns : tie.Need-returns
-returns c = rw (sum (c .before .before .before .before .before .before .before)) at (c .before .lower-row .ensures)
+returns c = rw (sum (tested (c .before .before .before))) at (c .before .lower-row .ensures)
 
 same-length-2 : tie.Need-same-length-2
 same-length-2 c = search needs
@@ -68,7 +72,9 @@ returns-2 c =
     let i = s .args .i in
     let b = s .args .b in
     let no = rw (two .distance2 .ensures) at (simp (sum plussed, back w32 (two .distance2 .result) (two .distance2 .ok)) at (c .before .less .ensures)) in
-    swept-same (λ j l. row-kept (at d i j) (at d i b) (getD (now (s .args .via)) j (pos 0)) (at d i (s .args .a) +ℤ s .args .w) (s .pre .triangle j l) (sym no ∙ c .if1 .left))
+    swept-same (λ j l.
+    row-kept (at d i j) (at d i b) (getD (now (s .args .via)) j (pos 0)) (at d i (s .args .a) +ℤ s .args .w) (s .pre .triangle j l)
+    (sym no ∙ c .if1 .left))
 
 pub insert-row-spec : {M : Type 1} → statement M
 insert-row-spec =

@@ -33,7 +33,8 @@ plus-requires : tie.Need-plus-requires Inv-loop μ-loop
 plus-requires c κs =
     let t = c .item in
     let s = c .before .before .before in
-    simp (toZ-ofZ (s .fits .base), back w32 (t .result) (t .ok)) (rw (t .ensures) (sum-fits _ _ (s .pre .base-range) (s .pre .range _ (c .before .loop-test .taken))))
+    simp (toZ-ofZ (s .fits .base), back w32 (t .result) (t .ok))
+    (rw (t .ensures) (sum-fits _ _ (s .pre .base-range) (s .pre .range _ (c .before .loop-test .taken))))
 
 distance-requires : tie.Need-distance-requires Inv-loop μ-loop
 distance-requires c κs = record { size = omega arith; row = omega arith; column = omega arith }
@@ -71,7 +72,8 @@ loop-again c =
     let i = plussed .before .before .before .before .args .i in (
       omega arith,
       swept-more (i * STRIDE + l .j) _ (l .inv .1) (omega arith) (omega arith)
-          (back w32 (m .result) (m .ok) ∙ m .ensures ∙ ap₂ minZ (back w32 (e .result) (e .ok) ∙ e .ensures ∙ swept-next (l .inv .1)) (back w32 (p .result) (p .ok) ∙ sum)),
+          (back w32 (m .result) (m .ok) ∙ m .ensures
+          ∙ ap₂ minZ (back w32 (e .result) (e .ok) ∙ e .ensures ∙ swept-next (l .inv .1)) (back w32 (p .result) (p .ok) ∙ sum)),
     )
 
 same-length : tie.Need-same-length Inv-loop μ-loop

@@ -35,10 +35,15 @@ at-most-requires-3 c κs = search needs
 first : (c : tie.After-at-most) → let s = c .before .before .before .args in c .at-most .result ≡ leZ (s .lo) (s .hi)
 first c = let fits = c .before .before .before .fits in simp (toZ-ofZ (fits .lo), toZ-ofZ (fits .hi)) at (c .at-most .ensures)
 
-second : (c : tie.After-at-most2) → let s = c .before .before .before .before .before .before .args in c .at-most2 .result ≡ leZ (s .lo) (at (now (s .d)) (s .a) (s .b))
+second : (c : tie.After-at-most2)
+    → let ordered = c .before .before in
+    let s = ordered .before .before .before .before .args in
+    c .at-most2 .result ≡ leZ (s .lo) (at (now (s .d)) (s .a) (s .b))
 second c =
     let e = c .before .distance2 in
-    rw (e .ensures) at (simp (toZ-ofZ (c .before .before .before .before .before .before .fits .lo), back w32 (e .result) (e .ok)) at (c .at-most2 .ensures))
+    let ordered = c .before .before in
+    let fits = ordered .before .before .before .before .fits in
+    rw (e .ensures) at (simp (toZ-ofZ (fits .lo), back w32 (e .result) (e .ok)) at (c .at-most2 .ensures))
 
 returns : tie.Need-returns
 returns c =

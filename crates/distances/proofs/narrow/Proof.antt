@@ -28,9 +28,13 @@ is-met c = met _ _ _ _ _ (sym (test (c .before)) ∙ c .if1 .taken)
 low : (c : tie.After-minus) → toZ w32 (ofZ w32 (c .minus .result)) ≡ negℤ (c .before .before .before .before .args .lo)
 low c = back w32 (c .minus .result) (c .minus .ok) ∙ c .minus .ensures ∙ ap negℤ (toZ-ofZ (c .before .before .before .before .fits .lo))
 
+abbrev start : tie.After-minus → tie.Start
+start c = c .before .before .before .before
+
 first : (c : tie.After-tighten) →
-    let s = c .before .before .before .before .before .before .args in Changed (s .n) (s .n) (now (s .d)) (c .tighten .last .0) (added (at (now (s .d))) (s .a) (s .b) (s .hi))
-first c = rw (toZ-ofZ (c .before .before .before .before .before .before .fits .hi)) at (c .tighten .ensures)
+    let s = start (c .before .before) .args in
+    Changed (s .n) (s .n) (now (s .d)) (c .tighten .last .0) (added (at (now (s .d))) (s .a) (s .b) (s .hi))
+first c = rw (toZ-ofZ (start (c .before .before) .fits .hi)) at (c .tighten .ensures)
 
 minus-requires : tie.Need-minus-requires
 minus-requires c κs =
@@ -39,13 +43,13 @@ minus-requires c κs =
 
 tighten-requires : tie.Need-tighten-requires
 tighten-requires c κs =
-    let s = c .before .before .before .before .before in
+    let s = start (c .before) in
     rw (toZ-ofZ (s .fits .hi)) (upper-asked (s .pre) (is-met (c .before .before)))
 
 tighten-requires-2 : tie.Need-tighten-requires-2
 tighten-requires-2 c κs =
     let i = c .before .before in
-    let s = i .before .before .before .before .before .before in
+    let s = start (i .before .before) in
     rw (low (i .before .before)) (lower-asked (s .pre) (is-met (i .before .before .before)) (first i))
 
 same-length : tie.Need-same-length
@@ -54,7 +58,7 @@ same-length c = search needs
 returns : tie.Need-returns
 returns c =
     let i = c .before .before .before .before in
-    let s = i .before .before .before .before .before .before in
+    let s = start (i .before .before) in
     let t = i .before .before .before in
     let cut : Cut (s .args .n) (s .args .a) (s .args .b) (s .args .lo) (s .args .hi) (now (s .args .d)) (c .before .tighten2 .last .0) =
     record { middle = i .tighten .last .0; upper = first i; lower = rw (low (i .before .before)) at (c .before .tighten2 .ensures) } in

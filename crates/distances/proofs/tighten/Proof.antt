@@ -14,14 +14,17 @@ distance-requires c κs = search needs
 less-requires : tie.Need-less-requires
 less-requires c κs = search needs
 
+abbrev start : tie.Then1 → tie.Start
+start c = c .before .before .before .before
+
 insert-requires : tie.Need-insert-requires
-insert-requires c κs = let s = c .before .before .before .before .before in rw (toZ-ofZ (s .fits .w)) (s .pre)
+insert-requires c κs = let s = start (c .before) in rw (toZ-ofZ (s .fits .w)) (s .pre)
 
 same-length : tie.Need-same-length
 same-length c = search needs
 
 returns : tie.Need-returns
-returns c = rw (toZ-ofZ (c .before .before .before .before .before .before .before .fits .w)) at (c .before .insert .ensures)
+returns c = rw (toZ-ofZ (start (c .before .before .before) .fits .w)) at (c .before .insert .ensures)
 
 same-length-2 : tie.Need-same-length-2
 same-length-2 c = search needs

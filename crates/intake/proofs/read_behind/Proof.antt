@@ -23,9 +23,11 @@ errno-requires c κs = search needs
 
 decide-requires : tie.Need-decide-requires
 decide-requires c κs =
-    let read = c .before .before .before .read in
-    let start = c .before .before .before .before .before .before in
-    rw (toZ-ofZ (record { sfits = read .ok })) (record { fits = omega (arith, answer-room (start .args .n) (start .args .area .now) (read .result) (start .pre) (read .ensures)) })
+    let at-read = c .before .before .before in
+    let start = at-read .before .before .before in
+    let read = at-read .read in
+    let room = answer-room (start .args .n) (start .args .area .now) (read .result) (start .pre) (read .ensures) in
+    rw (toZ-ofZ (record { sfits = read .ok })) (record { fits = omega arith })
 
 same-length : tie.Need-same-length
 same-length c = search needs

@@ -27,6 +27,10 @@ sub-left c = omega arith
 read-behind-requires : tie.Need-read-behind-requires Inv-loop μ-loop
 read-behind-requires c κs = reads-room (c .before .before .before .loop .inv)
 
+-- the read, from where its answer is looked at
+abbrev read : tie.After-slice-known2 Inv-loop μ-loop → tie.After-read-behind Inv-loop μ-loop
+read c = c .before .before
+
 -- ---- by what is done after the read: go on
 
 enum-known-m : tie.Need-enum-known-m Inv-loop μ-loop
@@ -37,7 +41,7 @@ loop-less c = omega arith
 
 loop-again : tie.Need-loop-again Inv-loop μ-loop
 loop-again c =
-    let at-read = c .before .before .before .before .before in
+    let at-read = read (c .before .before .before) in
     came-on _ _ (at-read .before .before .before .before .loop .inv) (at-read .read-behind .ensures) (c .before .m .given .1)
 
 -- ---- hand on
@@ -47,7 +51,7 @@ enum-known-m-2 c = search needs
 
 returns-2 : tie.Need-returns-2 Inv-loop μ-loop
 returns-2 c =
-    let at-read = c .before .before .before .before .before in
+    let at-read = read (c .before .before .before) in
     gathered-whole (came-whole _ _ (at-read .before .before .before .before .loop .inv) (at-read .read-behind .ensures) (c .before .m2 .given .1))
 
 same-length-2 : tie.Need-same-length-2 Inv-loop μ-loop
@@ -60,7 +64,7 @@ enum-told c = search needs
 
 returns-3 : tie.Need-returns-3 Inv-loop μ-loop
 returns-3 c =
-    let at-read = c .before .before .before .before in
+    let at-read = read (c .before .before) in
     gathered-failed (came-failed _ _ (at-read .before .before .before .before .loop .inv) (at-read .read-behind .ensures) (c .enum-told .given .1))
 
 same-length-3 : tie.Need-same-length-3 Inv-loop μ-loop

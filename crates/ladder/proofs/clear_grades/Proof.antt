@@ -34,15 +34,19 @@ clear-record-requires c κs = λ z.
     let u = i .before .loop .inv in
     omega (arith, cleared-room (s .pre .0) (s .pre .1) u (i .loop-test .taken) z, u .swept .long)
 
+-- the turn of the loop, from where the record is cleared
+abbrev turn : tie.After-clear-record Inv-loop μ-loop → tie.In-loop Inv-loop μ-loop
+turn c = c .before .before .before
+
 add-k : tie.Need-add-k Inv-loop μ-loop
-add-k c = let l = few (c .before .before .before .before .before) in omega arith
+add-k c = let l = few (turn (c .before .before)) in omega arith
 
 loop-less : tie.Need-loop-less Inv-loop μ-loop
-loop-less c = omega (arith, c .before .before .before .before .before .loop-test .taken)
+loop-less c = omega (arith, turn (c .before .before) .loop-test .taken)
 
 loop-again : tie.Need-loop-again Inv-loop μ-loop
 loop-again c =
-    let i = c .before .before .before .before .before in
+    let i = turn (c .before .before) in
     let s = i .before .before .before in
     cleared-next (s .pre .0) (s .pre .1) (i .before .loop .inv) (i .loop-test .taken) (c .before .before .clear-record .ensures)
 

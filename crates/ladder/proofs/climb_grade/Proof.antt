@@ -33,16 +33,20 @@ climb-record-requires c κs =
     let i = c .before .before .before in
     upto-asks (i .before .before .before .before .pre) (i .before .loop .inv) (i .loop-test .taken) refl
 
+-- the turn of the loop, from where the record is asked
+abbrev turn : tie.After-climb-record Inv-loop μ-loop → tie.In-loop Inv-loop μ-loop
+turn c = c .before .before .before .before
+
 add-k : tie.Need-add-k Inv-loop μ-loop
-add-k c = let l = few (c .before .before .before .before .before .before .before) in omega arith
+add-k c = let l = few (turn (c .before .before .before)) in omega arith
 
 loop-less : tie.Need-loop-less Inv-loop μ-loop
-loop-less c = omega (arith, c .before .before .before .before .before .before .before .loop-test .taken)
+loop-less c = omega (arith, turn (c .before .before .before) .loop-test .taken)
 
 loop-again : tie.Need-loop-again Inv-loop μ-loop
 loop-again c =
     let r = c .before .before .before in
-    let i = r .before .before .before .before in
+    let i = turn r in
     upto-next (i .before .before .before .before .pre) (i .before .loop .inv) (i .loop-test .taken) refl (r .climb-record .ensures)
     (r .climb-record .kept .0) (r .climb-record .kept .1 .1 .1 .1 .1 .1 .0)
 

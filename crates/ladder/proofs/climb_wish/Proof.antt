@@ -18,7 +18,10 @@ returns : tie.Need-returns
 returns c = record { climbing = λ e. absurd (eqb-false _ _ (sym (c .before .climbs .ensures) ∙ not-true _ (c .if1 .taken)) e); stopped = λ _. (refl, refl) }
 
 -- the wish is still climbing
-still : (c : tie.Else1) → let args = c .before .before .before .before .before .args in getD (args .levels .now) (args .w) 0 ≡ args .y - 1
+still : (c : tie.Else1)
+    → let asked = c .before in
+    let args = asked .before .before .before .before .args in
+    getD (args .levels .now) (args .w) 0 ≡ args .y - 1
 still c = eqb-true _ _ (sym (c .before .climbs .ensures) ∙ not-false _ (c .if1 .left))
 
 ask-requires : tie.Need-ask-requires

@@ -1,25 +1,26 @@
 -- `ladder::distance_of` meets its contract: an end and as many more as a wish has levels fit.
-use native.Mathlib.Omega.{arith}
-use lib.IntN.{pos, _+ℤ_}
+use mathlib.Core.Path.{_≡_, _∙_}
+use lib.IntN.{pos}
 use mir.Syntax.{w32}
-use mir.Val.{SFits}
-use mir.Facts.{toZ-ofZ, toZ-pos}
+use mir.Val.{toZ, ofZ}
+use mir.Facts.{toZ-ofZ}
 use borrow.Author.Needs.{needs}
-use Rattle.ticks.proofs.Ticks.{ticks}
+use Rattle.ticks.proofs.Ticks.{back}
+use Rattle.ladder.proofs.Asks.{reach-fits}
 use Rattle.ladder.proofs.distance_of.Statement.{statement}
 use Rattle.ladder.proofs.distance_of.Tie as tie
 
-fits : (c : tie.Start) → SFits w32 (c .args .lo +ℤ pos (c .args .k))
-fits c = omega (ticks, c .pre .ends .above, c .pre .ends .below, c .pre .few)
+to-i32-requires : tie.Need-to-i32-requires
+to-i32-requires c κs = search needs
 
-cast-result : tie.Need-cast-result
-cast-result c = search needs
+steps : (c : tie.After-to-i32) → toZ w32 (ofZ w32 (c .to-i32 .result)) ≡ pos (c .before .args .k)
+steps c = back w32 (c .to-i32 .result) (c .to-i32 .ok) ∙ c .to-i32 .ensures
 
 add-result : tie.Need-add-result
-add-result c = rw (toZ-ofZ (c .fits .lo), toZ-pos w32 {n = c .args .k} (omega (arith, c .pre .few))) (fits c)
+add-result c = rw (toZ-ofZ (c .before .fits .lo), steps c) (reach-fits (c .before .pre))
 
 returns : tie.Need-returns
-returns c = rw (toZ-ofZ (c .fits .lo), toZ-pos w32 {n = c .args .k} (omega (arith, c .pre .few))) (toZ-ofZ (fits c))
+returns c = rw (toZ-ofZ (c .before .fits .lo), steps c) (toZ-ofZ (reach-fits (c .before .pre)))
 
 pub distance-of-spec : {M : Type 1} → statement M
-distance-of-spec = tie.close (tie.spec cast-result add-result returns)
+distance-of-spec = tie.close (tie.spec to-i32-requires add-result returns)

@@ -2,7 +2,7 @@
 use Prim.Native.Nat.{_≤_}
 use native.Mathlib.Omega.{arith}
 use Rattle.ladder.specs.Climbing.{Under}
-use Rattle.ladder.proofs.Runs.{under-none, under-down, under-part}
+use Rattle.ladder.proofs.Runs.{under-none, under-more}
 use Rattle.ladder.proofs.run_past.Statement.{statement}
 use Rattle.ladder.proofs.run_past.Tie as tie
 
@@ -35,11 +35,12 @@ loop-less c = omega arith
 loop-again : tie.Need-loop-again Inv-loop μ-loop
 loop-again c =
     let l = c .before .before .before .loop in
-    (omega arith, omega arith, under-down (l .inv .2) (c .if1 .left))
+    (omega arith, omega arith, under-more _ (l .inv .2) (c .if1 .left) (λ j p q n. (omega arith, omega arith)))
 
 returns-2 : tie.Need-returns-2 Inv-loop μ-loop
 returns-2 c =
-    record { low = omega arith; high = omega arith; after = under-part (c .before .loop .inv .2) (omega arith) (omega arith); ends = λ l. omega arith }
+    let i = c .before .loop .inv in
+    record { low = i .0; high = i .1; after = i .2; ends = λ l. omega arith }
 
 pub run-past-spec : {M : Type 1} → statement M
 run-past-spec =

@@ -2,6 +2,7 @@
 use borrow.Author.Tests.{lt-ltb, le-ltb}
 use mir.Facts.{toZ-ofZ}
 use borrow.Author.Needs.{needs}
+use Rattle.meaning.specs.Plan.{MOST-RECORDS}
 use Rattle.plan_c.proofs.plan_field.Statement.{statement}
 use Rattle.plan_c.proofs.plan_field.Tie as tie
 
@@ -12,7 +13,10 @@ same-length : tie.Need-same-length
 same-length c = search needs
 
 returns : tie.Need-returns
-returns c = record { answer = c .before .before .before .before .read .result; read = c .before .before .before .before .read .ensures; got = rw (le-ltb (c .before .before .before .before .before .before .before .before .args .k) 256 (c .if1 .taken)) }
+returns c =
+    let asked = c .before .before .before .before in
+    let k = asked .before .before .before .before .args .k in
+    record { answer = asked .read .result; read = asked .read .ensures; got = rw (le-ltb k MOST-RECORDS (c .if1 .taken)) }
 
 mul-r : tie.Need-mul-r
 mul-r c = search needs
@@ -27,7 +31,15 @@ same-length-2 : tie.Need-same-length-2
 same-length-2 c = search needs
 
 returns-2 : tie.Need-returns-2
-returns-2 c = record { answer = c .before .before .before .before .before .before .read .result; read = c .before .before .before .before .before .before .read .ensures; got = rw (toZ-ofZ (record { sfits = c .field-of .ok }), lt-ltb (c .before .before .before .before .before .before .before .before .before .before .args .k) 256 (c .before .before .if1 .left)) (c .field-of .ensures) }
+returns-2 c =
+    let within = c .before .before in
+    let asked = within .before .before .before .before in
+    let k = asked .before .before .before .before .args .k in
+    record {
+      answer = asked .read .result;
+      read = asked .read .ensures;
+      got = rw (toZ-ofZ (record { sfits = c .field-of .ok }), lt-ltb k MOST-RECORDS (within .if1 .left)) (c .field-of .ensures);
+    }
 
 pub plan-field-spec : {M : Type 1} → statement M
 plan-field-spec =

@@ -1,54 +1,46 @@
--- `report::answer` meets its contract: a short area is left alone; else the solver's areas are long enough, and what it left in them has its form.
+-- `report::answer` meets its contract: a short area is left alone; else the text is read once, and what was said of it is told.
 use mathlib.Core.Path.{refl}
+use native.Mathlib.Nat.{le-refl}
 use native.Mathlib.Omega.{arith}
 use borrow.Author.Needs.{needs}
-use Rattle.report.proofs.Outcomes.{left-of}
+use Rattle.meaning.specs.Plan.{MOST-LEVELS-TOGETHER}
+use Rattle.solver.specs.Settled.{ReadInto}
+use Rattle.report.proofs.Outcomes.{long-told}
 use Rattle.report.proofs.answer.Statement.{statement}
 use Rattle.report.proofs.answer.Tie as tie
+
+abbrev test : tie.After-read → tie.Else1
+test c = c .before .before
+
+abbrev start : tie.Else1 → tie.Start
+start c = c .before .before .before
+
+said : (c : tie.After-read) → ReadInto (start (test c) .args .text .now) (c .read .last .1 .0) (c .read .result)
+said c = record { before = _; room = le-refl MOST-LEVELS-TOGETHER; read = c .read .ensures }
 
 returns : tie.Need-returns
 returns c = record { long = λ h. absurd (omega (arith, c .if1 .taken)); short = λ h. (refl, refl) }
 
-slice-aggregate-solve : tie.Need-slice-aggregate-solve
-slice-aggregate-solve c = search needs
+slice-aggregate-read : tie.Need-slice-aggregate-read
+slice-aggregate-read c = search needs
 
-slice-aggregate-solve-2 : tie.Need-slice-aggregate-solve-2
-slice-aggregate-solve-2 c = search needs
-
-slice-aggregate-solve-3 : tie.Need-slice-aggregate-solve-3
-slice-aggregate-solve-3 c = search needs
-
-solve-requires : tie.Need-solve-requires
-solve-requires c κs = search needs
-
-number-of-requires : tie.Need-number-of-requires
-number-of-requires c κs = search needs
-
-place-in-requires : tie.Need-place-in-requires
-place-in-requires c κs = search needs
+read-requires : tie.Need-read-requires
+read-requires c κs = search needs
 
 slice-aggregate-put-outcome : tie.Need-slice-aggregate-put-outcome
 slice-aggregate-put-outcome c = search needs
 
-slice-aggregate-put-outcome-2 : tie.Need-slice-aggregate-put-outcome-2
-slice-aggregate-put-outcome-2 c = search needs
-
-slice-aggregate-put-outcome-3 : tie.Need-slice-aggregate-put-outcome-3
-slice-aggregate-put-outcome-3 c = search needs
-
 put-outcome-requires : tie.Need-put-outcome-requires
-put-outcome-requires c κs =
-    let s = c .before .before .before .before .before .before .before .before .before .solve in
-    (c .before .before .before .before .before .before .before .before .before .before .before .before .before .if1 .left, left-of (s .result) refl (omega (arith, s .kept .1 .1 .0)) (c .before .before .before .before .number-of .ensures) (c .before .before .before .place-in .ensures) (s .ensures .promise))
+put-outcome-requires c κs = let r = c .before .before .before in (test r .if1 .left, (_, said r))
 
 same-length : tie.Need-same-length
 same-length c = search needs
 
 returns-2 : tie.Need-returns-2
-returns-2 c = record { long = λ h. c .before .before .put-outcome .ensures; short = λ h. absurd (omega (arith, c .before .before .before .before .before .before .before .before .before .before .before .before .before .before .before .before .if1 .left)) }
+returns-2 c =
+    let put = c .before .before in
+    let r = put .before .before .before .before in
+    long-told (test r .if1 .left) (put .put-outcome .ensures _ (said r))
 
 pub answer-spec : {M : Type 1} → statement M
-answer-spec =
-    tie.close
-    (tie.spec returns slice-aggregate-solve slice-aggregate-solve-2 slice-aggregate-solve-3 solve-requires number-of-requires place-in-requires
-    slice-aggregate-put-outcome slice-aggregate-put-outcome-2 slice-aggregate-put-outcome-3 put-outcome-requires same-length returns-2)
+answer-spec = tie.close (tie.spec returns slice-aggregate-read read-requires slice-aggregate-put-outcome put-outcome-requires same-length returns-2)

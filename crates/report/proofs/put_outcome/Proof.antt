@@ -1,59 +1,157 @@
--- `report::put_outcome` meets its contract: by the number, what the solver left is times and levels, a chain, or a refusal; each has its form.
+-- `report::put_outcome` meets its contract: what the outcome left in its areas has its form. The text is any whose reading this is; what is asked on the
+-- way is asked of the one that is known to be.
+use mathlib.Core.Path.{_≡_, refl}
+use mathlib.Core.List.{List}
+use Prim.Native.Nat.{ℕ}
 use native.Mathlib.Omega.{arith}
 use borrow.Author.Needs.{needs}
+use lib.IntN.{ℤ}
 use Rattle.meaning.specs.Reading.{read}
-use Rattle.plan.specs.Held.{planIn}
-use Rattle.report.specs.Left.{Timed}
-use Rattle.report.proofs.Outcomes.{told, left-solved, left-none, left-refused}
+use Rattle.plan.specs.Held.{Holds}
+use Rattle.reader.specs.Heard.{planIn}
+use Rattle.reader.proofs.Answers.{read-holds}
+use Rattle.solver.specs.declared.Outcome.the-variants as Out
+use Rattle.solver.specs.Settled.{ReadInto}
+use Rattle.forms.specs.Timed.{Timed}
+use Rattle.report.proofs.Outcomes.{LeftSolved, LeftNone, LeftRefused, left-solved, left-none, left-refused, told}
 use Rattle.report.proofs.put_outcome.Statement.{statement}
 use Rattle.report.proofs.put_outcome.Tie as tie
 
-plan-of-requires : tie.Need-plan-of-requires
-plan-of-requires c κs = search needs
+abbrev start : tie.After-chain → tie.Start
+start c = let lent = c .before .before in lent .before .before .before
 
--- the plan in memory is the one whose times and levels were left
-timed : (c : tie.After-plan-of) → let a = c .before .before .before .before .before .before .before .args in Timed (planIn (read (a .text .now))) (c .plan-of .result) (a .place) (a .times .now) (a .levels .now)
-timed c =
-    let l = c .before .before .before .before .before .before .before .pre .1 in
-    let s = left-solved l (c .before .before .if1 .taken) in
-    record { holds = c .plan-of .ensures; faultless = s .faultless; count = s .counted; long = s .long; room = l .room }
+-- the text is one that was read into this
+abbrev From : tie.Start → List ℕ → Type 0
+From s text = ReadInto text (s .args .held .now) (s .args .said)
+
+known : (s : tie.Start) → From s (s .pre .1 .0)
+known s = s .pre .1 .1
+
+-- memory holds its plan
+holds : (s : tie.Start) {text : List ℕ} → From s text → Holds (planIn (read text)) (s .args .said .plan)
+holds s i = read-holds (i .read) (i .room)
+
+-- ---- what the outcome left
+
+module _ (c : tie.After-outcome-of) {text : List ℕ} (i : From (start (c .before)) text) where
+  abbrev times : List ℤ
+  times = c .outcome-of .last .1 .1 .0
+
+  abbrev levels : List ℕ
+  levels = c .outcome-of .last .1 .1 .1 .0
+
+  abbrev chain : List ℕ
+  chain = c .outcome-of .last .1 .1 .1 .1 .0
+
+  solved-left : {w : ℕ} → c .outcome-of .result ≡ Out.Solved w → LeftSolved text times levels w
+  solved-left e = left-solved refl (c .outcome-of .ensures _ i) e
+
+  none-left : {steps : ℕ} → c .outcome-of .result ≡ Out.NoTimetable steps → LeftNone text chain steps
+  none-left e = left-none refl (c .outcome-of .ensures _ i) e
+
+  refused-left : {k line : ℕ} → c .outcome-of .result ≡ Out.Refused k line → LeftRefused text k line
+  refused-left e = left-refused refl (c .outcome-of .ensures _ i) e
+
+  timed : {w : ℕ} → c .outcome-of .result ≡ Out.Solved w → Timed (planIn (read text)) (start (c .before) .args .said .plan) w times levels
+  timed e =
+      let s = solved-left e in
+      record {
+        holds = holds (start (c .before)) i;
+        faultless = s .faultless;
+        count = s .counted;
+        long = s .long;
+        room = omega (arith, c .outcome-of .kept .1 .1 .1 .0);
+      }
+
+abbrev found : tie.After-chain2 → tie.After-outcome-of
+found c = c .before .before .before
+
+abbrev begun : tie.After-chain2 → tie.Start
+begun c = start (found c .before)
+
+slice-aggregate-outcome-of : tie.Need-slice-aggregate-outcome-of
+slice-aggregate-outcome-of c = search needs
+
+slice-aggregate-outcome-of-2 : tie.Need-slice-aggregate-outcome-of-2
+slice-aggregate-outcome-of-2 c = search needs
+
+slice-aggregate-outcome-of-3 : tie.Need-slice-aggregate-outcome-of-3
+slice-aggregate-outcome-of-3 c = search needs
+
+outcome-of-requires : tie.Need-outcome-of-requires
+outcome-of-requires c κs = (start c .pre .1, refl)
+
+enum-known-w : tie.Need-enum-known-w
+enum-known-w c = search needs
+
+slice-aggregate-put-solved : tie.Need-slice-aggregate-put-solved
+slice-aggregate-put-solved c = search needs
+
+slice-aggregate-put-solved-2 : tie.Need-slice-aggregate-put-solved-2
+slice-aggregate-put-solved-2 c = search needs
 
 put-solved-requires : tie.Need-put-solved-requires
-put-solved-requires c κs = (c .before .before .before .before .before .before .before .pre .0, (planIn (read (c .before .before .before .before .before .before .before .args .text .now)), timed c))
+put-solved-requires c κs =
+    let w = c .before .before .before .before in
+    let o = w .before .before in
+    (begun o .pre .0, (_, timed (found o) (known (begun o)) (w .w .given .1)))
+
+enum-known-steps : tie.Need-enum-known-steps
+enum-known-steps c = search needs
+
+slice-aggregate-put-none : tie.Need-slice-aggregate-put-none
+slice-aggregate-put-none c = search needs
+
+put-none-requires : tie.Need-put-none-requires
+put-none-requires c κs =
+    let steps = c .before .before .before in
+    let o = steps .before .before in
+    let s = none-left (found o) (known (begun o)) (steps .steps .given .1) in
+    (begun o .pre .0, s .long, s .few, (_, holds (begun o) (known (begun o))))
+
+enum-known-number : tie.Need-enum-known-number
+enum-known-number c = search needs
+
+put-refused-requires : tie.Need-put-refused-requires
+put-refused-requires c κs =
+    let number = c .before .before in
+    let o = number .before .before in
+    (begun o .pre .0, refused-left (found o) (known (begun o)) (number .number .given .1) .most)
 
 same-length : tie.Need-same-length
 same-length c = search needs
 
 returns : tie.Need-returns
-returns c = told _ (left-solved (c .before .before .before .before .before .before .before .before .before .before .pre .1) (c .before .before .before .before .before .if1 .taken) .right) (c .before .before .put-solved .ensures _ (timed (c .before .before .before)))
-
-plan-of-requires-2 : tie.Need-plan-of-requires-2
-plan-of-requires-2 c κs = search needs
-
-put-none-requires : tie.Need-put-none-requires
-put-none-requires c κs =
-    let s = left-none (c .before .before .before .before .before .before .before .before .pre .1) (c .before .before .if2 .taken) in
-    (c .before .before .before .before .before .before .before .before .pre .0, s .long, s .few, (_, c .plan-of2 .ensures))
+returns c =
+    let put = c .before .before in
+    let lent = put .before .before .before in
+    let w = lent .before .before in
+    let o = found (w .before .before) in
+    λ text i. told _ (solved-left o i (w .w .given .1) .right) (put .put-solved .ensures _ (timed o i (w .w .given .1)))
 
 same-length-2 : tie.Need-same-length-2
 same-length-2 c = search needs
 
 returns-2 : tie.Need-returns-2
-returns-2 c = told _ (left-none (c .before .before .before .before .before .before .before .before .before .before .before .pre .1) (c .before .before .before .before .before .if2 .taken) .right) (c .before .before .put-none .ensures _ (c .before .before .before .plan-of2 .ensures))
-
-put-refused-requires : tie.Need-put-refused-requires
-put-refused-requires c κs =
-    let s = left-refused (c .before .before .before .before .before .before .before .pre .1) (c .before .before .if1 .left) (c .before .if2 .left) in
-    (omega (arith, c .before .before .before .before .before .before .before .pre .0), omega (arith, s .most))
+returns-2 c =
+    let put = c .before .before in
+    let steps = put .before .before .before .before in
+    let o = steps .before .before in
+    λ text i. told _ (none-left (found o) i (steps .steps .given .1) .right) (put .put-none .ensures _ (holds (begun o) i))
 
 same-length-3 : tie.Need-same-length-3
 same-length-3 c = search needs
 
 returns-3 : tie.Need-returns-3
-returns-3 c = told _ (left-refused (c .before .before .before .before .before .before .before .before .before .before .pre .1) (c .before .before .before .before .before .if1 .left) (c .before .before .before .before .if2 .left) .right) (c .before .before .put-refused .ensures _)
+returns-3 c =
+    let put = c .before .before in
+    let number = put .before .before .before in
+    let o = found (number .before .before) in
+    λ text i. told _ (refused-left o i (number .number .given .1) .right) (put .put-refused .ensures _)
 
 pub put-outcome-spec : {M : Type 1} → statement M
 put-outcome-spec =
     tie.close
-    (tie.spec plan-of-requires put-solved-requires same-length returns plan-of-requires-2 put-none-requires same-length-2 returns-2 put-refused-requires
-    same-length-3 returns-3)
+    (tie.spec slice-aggregate-outcome-of slice-aggregate-outcome-of-2 slice-aggregate-outcome-of-3 outcome-of-requires enum-known-w
+    slice-aggregate-put-solved slice-aggregate-put-solved-2 put-solved-requires enum-known-steps slice-aggregate-put-none put-none-requires
+    enum-known-number put-refused-requires same-length returns same-length-2 returns-2 same-length-3 returns-3)

@@ -1,63 +1,27 @@
--- `solver::solve` meets its contract: a refusal that is heard, of an area or of the text, or the outcome of the plan that was read.
-use mathlib.Core.Path.{_≡_, sym, _∙_}
-use mathlib.Core.Bool.{true}
+-- `solver::solve` meets its contract: an area too short is refused before the text is read; else what was read has its outcome.
+use mathlib.Core.Path.{sym, _∙_}
 use native.Mathlib.Nat.{le-refl}
 use borrow.Author.Needs.{needs}
+use borrow.Author.Tests.{not-true, not-false}
 use Rattle.meaning.specs.Plan.{MOST-LEVELS-TOGETHER}
-use Rattle.meaning.specs.Reading.{read}
-use Rattle.meaning.specs.Outcome.{areas, longEnough}
-use Rattle.meaning.proofs.Demands.{long-areas}
-use Rattle.plan.specs.declared.Verdict.the-variants.{Taken}
-use Rattle.plan.specs.Held.{planIn}
-use Rattle.plan.proofs.Answers.{read-refused, read-taken}
-use Rattle.solver.proofs.Settles.{heard-taken, heard-refused, settled-solves, read-memory}
+use Rattle.meaning.specs.Outcome.{Areas, areas}
+use Rattle.solver.specs.Settled.{ReadInto}
+use Rattle.solver.proofs.Settles.{short-solves}
 use Rattle.solver.proofs.solve.Statement.{statement}
 use Rattle.solver.proofs.solve.Tie as tie
+
+abbrev start : tie.After-long-enough → tie.Start
+start c =
+    let known = c .before .before .before .before in
+    known .before .before .before
+
+abbrev given : tie.After-long-enough → Areas
+given c = let args = start c .args in areas (args .times .now) (args .levels .now) (args .chain .now)
 
 long-enough-requires : tie.Need-long-enough-requires
 long-enough-requires c κs = search needs
 
-slice-aggregate-read : tie.Need-slice-aggregate-read
-slice-aggregate-read c = search needs
-
-read-requires : tie.Need-read-requires
-read-requires c κs = search needs
-
-heard-requires : tie.Need-heard-requires
-heard-requires c κs = search needs
-
--- ---- a plan
-
-enum-told : tie.Need-enum-told
-enum-told c = search needs
-
--- the areas are long enough, and the text is taken
-both : (c : tie.After-enum-told) →
-    let at-read = c .before .before .before .before in
-    let args = at-read .before .before .before .before .before .before .before .before .before .args in
-    (longEnough (areas (args .times .now) (args .levels .now) (args .chain .now)) ≡ true) × (at-read .read .result .verdict ≡ Taken)
-both c =
-    let at-read = c .before .before .before .before in
-    let long = at-read .before .before .long-enough in
-    let h = heard-taken (long .result) (at-read .read .result .verdict) (sym (c .before .before .heard .ensures) ∙ c .enum-told .given .1) in
-    (sym (long .ensures) ∙ h .0, h .1)
-
-slice-aggregate-settle : tie.Need-slice-aggregate-settle
-slice-aggregate-settle c = search needs
-
-settle-requires : tie.Need-settle-requires
-settle-requires c κs =
-    let at-told = c .before .before .before .before in
-    let at-read = at-told .before .before .before .before in
-    let args = at-read .before .before .before .before .before .before .before .before .before .args in
-    let long = long-areas (areas (args .times .now) (args .levels .now) (args .chain .now)) (both at-told .0) in
-    record {
-      plan = planIn (read (args .text .now));
-      memory = read-memory (at-read .read .ensures) (le-refl MOST-LEVELS-TOGETHER) (both at-told .1);
-      times-long = long .for-times;
-      levels-long = long .for-levels;
-      chain-long = long .for-chain;
-    }
+-- ---- an area too short
 
 same-length : tie.Need-same-length
 same-length c = search needs
@@ -70,19 +34,34 @@ same-length-3 c = search needs
 
 returns : tie.Need-returns
 returns c =
-    let at-settle = c .before .before .before .before .before in
-    let at-told = at-settle .before .before .before .before .before in
-    let at-read = at-told .before .before .before .before in
-    let args = at-read .before .before .before .before .before .before .before .before .before .args in
-    let r = at-read .read .ensures in
-    let e = both at-told in
-    settled-solves _ _ (e .0) (read-taken r (le-refl MOST-LEVELS-TOGETHER) (e .1))
-    (at-settle .settle .ensures (planIn (read (args .text .now))) (read-memory r (le-refl MOST-LEVELS-TOGETHER) (e .1)))
+    let test = c .before .long-enough in
+    short-solves (start (c .before) .args .text .now) (given (c .before)) (sym (test .ensures) ∙ not-true (test .result) (c .if1 .taken))
 
--- ---- a refusal
+-- ---- areas long enough
 
-enum-known-number : tie.Need-enum-known-number
-enum-known-number c = search needs
+slice-aggregate-read : tie.Need-slice-aggregate-read
+slice-aggregate-read c = search needs
+
+read-requires : tie.Need-read-requires
+read-requires c κs = search needs
+
+slice-aggregate-outcome-of : tie.Need-slice-aggregate-outcome-of
+slice-aggregate-outcome-of c = search needs
+
+abbrev tested : tie.After-read → tie.After-long-enough
+tested c = c .before .before .before
+
+-- what was read
+read-into : (c : tie.After-read) → ReadInto (start (tested c) .args .text .now) (c .read .last .1 .0) (c .read .result)
+read-into c = record { before = _; room = le-refl MOST-LEVELS-TOGETHER; read = c .read .ensures }
+
+outcome-of-requires : tie.Need-outcome-of-requires
+outcome-of-requires c κs =
+    let held = c .before .before .before .before in
+    let at-read = held .before in
+    let else = at-read .before .before in
+    let test = else .before .long-enough in
+    ((_, read-into at-read), sym (test .ensures) ∙ not-false (test .result) (else .if1 .left))
 
 same-length-4 : tie.Need-same-length-4
 same-length-4 c = search needs
@@ -95,15 +74,13 @@ same-length-6 c = search needs
 
 returns-2 : tie.Need-returns-2
 returns-2 c =
-    let at-heard = c .before .before .before in
-    let at-read = at-heard .before .before in
-    let args = at-read .before .before .before .before .before .before .before .before .before .args in
-    heard-refused (args .text .now) (areas (args .times .now) (args .levels .now) (args .chain .now)) (at-read .before .before .long-enough .result)
-    (at-read .read .result .verdict) (at-read .before .before .long-enough .ensures) (read-refused (at-read .read .ensures) (le-refl MOST-LEVELS-TOGETHER))
-    (sym (at-heard .heard .ensures) ∙ c .before .number .given .1)
+    let back = c .before .before .before .before in
+    let at-outcome = back .before in
+    let held = at-outcome .before .before .before .before in
+    at-outcome .outcome-of .ensures _ (read-into (held .before .before))
 
 pub solve-spec : {M : Type 1} → statement M
 solve-spec =
     tie.close
-    (tie.spec long-enough-requires slice-aggregate-read read-requires heard-requires enum-told slice-aggregate-settle settle-requires enum-known-number
-    same-length same-length-2 same-length-3 returns same-length-4 same-length-5 same-length-6 returns-2)
+    (tie.spec long-enough-requires same-length same-length-2 same-length-3 returns slice-aggregate-read read-requires slice-aggregate-outcome-of
+    outcome-of-requires same-length-4 same-length-5 same-length-6 returns-2)

@@ -22,7 +22,10 @@ same-length-3 : tie.Need-same-length-3
 same-length-3 c = search needs
 
 returns : tie.Need-returns
-returns c = rw (c .number-of .ensures, c .before .place-in .ensures) (c .before .before .before .before .before .before .before .solve .ensures .promise)
+returns c =
+    let at-place = c .before in
+    let back = at-place .before .before .before in
+    rw (c .number-of .ensures, at-place .place-in .ensures) (back .before .before .before .solve .ensures .promise)
 
 pub timetable-solve-spec : {M : Type 1} → statement M
 timetable-solve-spec = tie.close (tie.spec solve-requires place-in-requires number-of-requires same-length same-length-2 same-length-3 returns)

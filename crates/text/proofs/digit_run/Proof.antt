@@ -33,16 +33,18 @@ shared-slice-read-b c = omega arith
 
 returns : tie.Need-returns Inv-loop μ-loop
 returns c =
-    let a = c .before .before .before .before .before .args in
-    let l = c .before .before .before .loop in (
+    let m = c .before .before .before in
+    let a = m .before .before .args in
+    let l = m .loop in (
       sym (run-low (a .s .now) l.i a.end (omega arith) (omega arith) l.v (omega arith)) ∙ l.inv .same-value,
       omega (arith, l.inv .same-stop, stop-low (a .s .now) l.i a.end (omega arith) (omega arith) (omega arith)),
     )
 
 returns-2 : tie.Need-returns-2 Inv-loop μ-loop
 returns-2 c =
-    let a = c .before .before .before .before .before .before .args in
-    let l = c .before .before .before .before .loop in (
+    let m = c .before .before .before .before in
+    let a = m .before .before .args in
+    let l = m .loop in (
       sym (run-high (a .s .now) l.i a.end (omega arith) (omega arith) l.v (omega arith) (omega arith)) ∙ l.inv .same-value,
       omega (arith, l.inv .same-stop, stop-high (a .s .now) l.i a.end (omega arith) (omega arith) (omega arith) (omega arith)),
     )
@@ -50,14 +52,14 @@ returns-2 c =
 -- fewer than 7 digits stand before this one
 few : (c : tie.Else2 Inv-loop μ-loop) → c .before .before .before .before .loop .v < 1000000
 few c =
-    let l = c .before .before .before .before .loop in
-    ten-small l.v (c .before .before .before .before .before .before .args .at) l.i (omega arith) (l .inv .size)
+    let m = c .before .before .before .before in
+    ten-small (m .loop .v) (m .before .before .args .at) (m .loop .i) (omega arith) (m .loop .inv .size)
 
 mul-v : tie.Need-mul-v Inv-loop μ-loop
 mul-v c = omega (arith, few c)
 
-wide-requires : tie.Need-wide-requires Inv-loop μ-loop
-wide-requires c κs = tt
+from-u8-requires : tie.Need-from-u8-requires Inv-loop μ-loop
+from-u8-requires c κs = tt
 
 add-v : tie.Need-add-v Inv-loop μ-loop
 add-v c = omega (arith, few (c .before))
@@ -70,14 +72,16 @@ loop-less c = omega arith
 
 loop-again : tie.Need-loop-again Inv-loop μ-loop
 loop-again c =
-    let a = c .before .before .before .before .before .before .before .args in
-    let l = c .before .before .before .before .before .loop in
+    let digit = c .before in
+    let m = digit .before .before .before .before in
+    let a = m .before .before .args in
+    let l = m .loop in
     record {
       from = omega arith;
       to = omega arith;
-      size = ten-more l.v (c .wide .result) a.at l.i (omega arith) (omega arith) (omega arith);
+      size = ten-more l.v (c .from-u8 .result) a.at l.i (omega arith) (omega arith) (omega arith);
       same-value =
-          rw (c .wide .ensures)
+          rw (c .from-u8 .ensures)
           (sym (run-more (a .s .now) l.i a.end (omega arith) (omega arith) l.v (omega arith) (omega arith)) ∙ l.inv .same-value);
       same-stop = omega (arith, l.inv .same-stop, stop-more (a .s .now) l.i a.end (omega arith) (omega arith) (omega arith) (omega arith));
     }
@@ -101,7 +105,7 @@ digit-run-spec =
     returns
     returns-2
     mul-v
-    wide-requires
+    from-u8-requires
     add-v
     add-i
     loop-less

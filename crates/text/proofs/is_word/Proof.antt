@@ -38,8 +38,9 @@ shared-slice-read-if2-2 c = omega arith
 
 returns-2 : tie.Need-returns-2 Inv-loop μ-loop
 returns-2 c =
-    let a = c .before .before .before .before .before .before .args in
-    let l = c .before .before .before .before .loop in
+    let m = c .before .before .before .before in
+    let a = m .before .before .args in
+    let l = m .loop in
     sym (same-no (a .s .now) (a .w .now) a.at a.end l.i (omega arith) (omega arith) (omega arith) (c .if2 .taken)) ∙ l.inv .1
 
 add-i : tie.Need-add-i Inv-loop μ-loop
@@ -50,8 +51,9 @@ loop-less c = omega arith
 
 loop-again : tie.Need-loop-again Inv-loop μ-loop
 loop-again c =
-    let a = c .before .before .before .before .before .before .args in
-    let l = c .before .before .before .before .loop in
+    let m = c .before .before .before .before in
+    let a = m .before .before .args in
+    let l = m .loop in
     (omega arith, sym (same-more (a .s .now) (a .w .now) a.at a.end l.i (omega arith) (omega arith) (omega arith) (c .if2 .left)) ∙ l.inv .1)
 
 returns-3 : tie.Need-returns-3 Inv-loop μ-loop

@@ -32,7 +32,8 @@ add-t10 c = search needs
 
 returns-3 : tie.Need-returns-3
 returns-3 c =
-    let a = c .before .before .before .before .before .before .args in
+    let short = c .before .before .before in
+    let a = short .before .before .before .args in
     let k : a .end ≤ length (a .s .now) = omega arith in
     let z = lz-yes (a .s .now) a.at a.end k (c .before .if3 .taken) (omega arith) in
     let r = zero-first (a .s .now) a.at a.end k (omega arith) (omega arith) z in (r .said, r .stopped)
@@ -42,7 +43,8 @@ digit-run-requires c κs = search needs
 
 returns-4 : tie.Need-returns-4
 returns-4 c =
-    let a = c .before .before .before .before .before .before .args in
+    let short = c .before .before .before in
+    let a = short .before .before .before .args in
     let k : a .end ≤ length (a .s .now) = omega arith in
     let h : a .at < a .end = omega arith in
     let z =

@@ -21,7 +21,10 @@ returns c = word-events _ (sym (c .before .is-word .ensures) ∙ c .if1 .taken)
 not-events : (c : tie.Else1) → let a = c .before .before .before .before .args in same (slice a.at a.end (a .s .now)) EVENTS ≡ false
 not-events c = sym (c .before .is-word .ensures) ∙ c .if1 .left
 
-not-rule : (c : tie.Else2) → let a = c .before .before .before .before .before .before .before .args in same (slice a.at a.end (a .s .now)) RULE ≡ false
+abbrev first : tie.Else2 → tie.Else1
+first c = c .before .before .before
+
+not-rule : (c : tie.Else2) → let a = first c .before .before .before .before .args in same (slice a.at a.end (a .s .now)) RULE ≡ false
 not-rule c = sym (c .before .is-word2 .ensures) ∙ c .if2 .left
 
 slice-aggregate-is-word-2 : tie.Need-slice-aggregate-is-word-2
@@ -42,12 +45,12 @@ is-word-requires-3 c κs = search needs
 returns-3 : tie.Need-returns-3
 returns-3 c =
     let d = c .before .before .before in
-    word-wish _ (not-events (d .before .before .before)) (not-rule d) (sym (c .before .is-word3 .ensures) ∙ c .if3 .taken)
+    word-wish _ (not-events (first d)) (not-rule d) (sym (c .before .is-word3 .ensures) ∙ c .if3 .taken)
 
 returns-4 : tie.Need-returns-4
 returns-4 c =
     let d = c .before .before .before in
-    word-other _ (not-events (d .before .before .before)) (not-rule d) (sym (c .before .is-word3 .ensures) ∙ c .if3 .left)
+    word-other _ (not-events (first d)) (not-rule d) (sym (c .before .is-word3 .ensures) ∙ c .if3 .left)
 
 pub read-word-spec : {M : Type 1} → statement M
 read-word-spec =

@@ -32,7 +32,8 @@ array-share-prefix-text c = whole-within (c .before .before .before .before .rea
 
 slice-aggregate-print : tie.Need-slice-aggregate-print
 slice-aggregate-print c =
-    sym (length-take-le _ _ (whole-within (c .before .before .before .before .before .read-text .ensures) (c .before .before .read .given .1)))
+    let told = c .before .before in
+    sym (length-take-le _ _ (whole-within (told .before .before .before .read-text .ensures) (told .read .given .1)))
 
 print-requires : tie.Need-print-requires
 print-requires c κs = search needs

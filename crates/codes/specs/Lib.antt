@@ -1,0 +1,2 @@
+-- The bound that a code names.
+pub mod Codes

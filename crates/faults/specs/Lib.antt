@@ -1,0 +1,2 @@
+-- The faults of the first line and of a record.
+pub mod Faults

@@ -1,0 +1,7 @@
+-- What the proofs about a line share.
+mod Wishes
+mod Effects
+-- what other crates may cite
+pub mod Walks
+pub mod Judges
+pub mod One

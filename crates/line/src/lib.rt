@@ -1,0 +1,325 @@
+// What one line of a text gives: its fields, the tests of section 3 in their order, and the record that it adds to the plan.
+ghost use mathlib.Core.Path.{_≡_};
+ghost use mathlib.Core.List.{map};
+ghost use Prim.Native.Nat.{_+_, _-_, _≤_, _<_};
+ghost use lib.ListN.{length};
+ghost use lib.Seq.{slice, sets};
+ghost use lib.IntN.{natAbs};
+ghost use Rattle.meaning.specs.Plan.{MOST-LEVELS, MOST-LEVELS-TOGETHER, MOST-BYTES};
+ghost use Rattle.line.specs.Lines.{restOf, Fielded, AfterThree, begun, withNumber, FieldRead, Whole, Room, Gives};
+ghost use Rattle.faults.specs.Faults.{NO-FAULT, Fitting, headFault};
+ghost use Rattle.line.specs.declared.Effect.the-variants.{Head};
+ghost use Rattle.line.specs.Effects.{levelOf, lastFrom, spanOf, wishSpan, rowFrom, isHead, isRule, isWish, Roomy};
+ghost use Rattle.line.specs.Effects.{eventsEffect, ruleEffect, wishEffect, Stored, WishTaken};
+use faults::NO_FAULT;
+use faults::SoFar;
+use faults::Span;
+use plan::Record;
+use scope::TOO_MANY;
+use scope::WRONG_FORM;
+use text::Number;
+use text::Word;
+
+const TAB: u8 = 9;
+
+// A field is a signed number, so this limit is met as such.
+const TOP_LEVEL: i32 = scope::TOP_LEVEL as i32;
+
+// How a number is stored that is no level.
+const NO_LEVEL: u8 = scope::TOP_LEVEL + 1;
+
+// A line as far as it is read: its number, its word, the place where its word ends, the place where it ends, how many numbers were read, and the
+// first four of them.
+pub struct Line {
+    pub number: usize,
+    pub word: Word,
+    pub first: usize,
+    pub end: usize,
+    pub count: usize,
+    pub fields: [i32; 4],
+}
+
+// The field behind a tab: its number and the place where it ends, or that it is no number.
+pub enum Field {
+    Number(i32, usize),
+    Wrong,
+}
+
+// What a line gives: a fault, the number of events and the horizon, or one record more.
+pub enum Effect {
+    Fault(u8),
+    Head(usize, u32),
+    Entry(Record),
+}
+
+// ---- the fields of a line
+
+// The line from `at` up to `end`, none of its numbers read.
+pub fn begin(text: &[u8], number: usize, at: usize, end: usize) -> Line
+    requires { ⌜ (at ≤ end) × (end ≤ length (now text)) ⌝ }
+    ensures { λ r. ⌜ r ≡ begun (now (text .entry)) number at end ⌝ }
+{
+    let first = text::find(text, at, end, TAB);
+    let word = text::read_word(text, at, first);
+    Line {
+        number: number,
+        word: word,
+        first: first,
+        end: end,
+        count: 0,
+        fields: [0; 4],
+    }
+}
+
+// The field behind the tab at p, in a line that ends at `end`.
+pub fn field_after(text: &[u8], p: usize, end: usize) -> Field
+    requires { ⌜ (p < end) × (end ≤ length (now text)) ⌝ }
+    ensures { λ r. ⌜ FieldRead (now (text .entry)) p end r ⌝ }
+{
+    let next = text::find(text, p + 1, end, TAB);
+    match text::read_number(text, p + 1, next) {
+        Number::Value(v) => Field::Number(v, next),
+        Number::Stopped(_) => Field::Wrong,
+    }
+}
+
+// One number more.
+pub fn with_number(line: Line, v: i32) -> Line
+    requires { ⌜ (line .count < MOST-BYTES) × (length (line .fields) ≡ 4) ⌝ }
+    ensures { λ r. ⌜ r ≡ withNumber line v ⌝ }
+{
+    let mut more = line;
+    let k = more.count;
+    more.count = k + 1;
+    if 4 <= k {
+        return more;
+    }
+    more.fields[k] = v;
+    more
+}
+
+// ---- the levels of a wish
+
+// A number as a level; one that is none is stored as one above the top.
+fn level_of(v: i32) -> u8
+    ensures { λ r. ⌜ r ≡ levelOf v ⌝ }
+{
+    if faults::is_between(0, TOP_LEVEL, v) {
+        widths::to_u8(widths::from_i32(v))
+    } else {
+        NO_LEVEL
+    }
+}
+
+// The place after the first three numbers.
+fn after_three(text: &[u8], first: usize, end: usize) -> usize
+    requires { ⌜ Fielded (now text) first end × (3 ≤ length (restOf (slice first end (now text)))) ⌝ }
+    ensures { λ r. ⌜ AfterThree (now (text .entry)) first end r ⌝ }
+{
+    let p = text::find(text, first + 1, end, TAB);
+    let q = text::find(text, p + 1, end, TAB);
+    text::find(text, q + 1, end, TAB)
+}
+
+// The numbers of a line from place `from` on, stored as levels from place `used` on.
+fn read_levels(text: &[u8], from: usize, end: usize, levels: &mut [u8], used: usize)
+    requires { ⌜ Fielded (now text) from end × (used + length (restOf (slice from end (now text))) ≤ MOST-LEVELS-TOGETHER)
+        × (MOST-LEVELS-TOGETHER ≤ length (now levels)) ⌝ }
+    ensures { λ r. ⌜ now (levels .exit) ≡ sets (now (levels .entry)) used (map levelOf (restOf (slice from end (now (text .entry))))) ⌝ }
+{
+    let mut p = from;
+    let mut k = used;
+    while p < end {
+        match field_after(text, p, end) {
+            Field::Number(v, next) => {
+                levels[k] = level_of(v);
+                p = next;
+            }
+            Field::Wrong => {
+                return;
+            }
+        }
+        k += 1;
+    }
+}
+
+// ---- the numbers of a record
+
+// The first four numbers of a line, as the numbers of a rule.
+fn span_of(line: Line) -> Span
+    requires { ⌜ length (line .fields) ≡ 4 ⌝ }
+    ensures { λ r. ⌜ r ≡ spanOf (line .fields) ⌝ }
+{
+    Span {
+        a: line.fields[0],
+        b: line.fields[1],
+        lo: line.fields[2],
+        hi: line.fields[3],
+    }
+}
+
+// The distance of the last of m levels; where lo is out of range no sum is made, since that alone is the fault.
+fn last_of(lo: i32, m: usize) -> i32
+    requires { ⌜ (1 ≤ m) × (m ≤ MOST-LEVELS) ⌝ }
+    ensures { λ r. ⌜ r ≡ lastFrom lo m ⌝ }
+{
+    if faults::is_end(lo) {
+        ticks::plus(lo, widths::to_i32(m - 1))
+    } else {
+        lo
+    }
+}
+
+// The first three numbers of a line, as those of a wish with m levels.
+fn wish_span(line: Line, m: usize) -> Span
+    requires { ⌜ (length (line .fields) ≡ 4) × (1 ≤ m) × (m ≤ MOST-LEVELS) ⌝ }
+    ensures { λ r. ⌜ r ≡ wishSpan (line .fields) m ⌝ }
+{
+    let mut span = span_of(line);
+    span.hi = last_of(span.lo, m);
+    span
+}
+
+// ---- what a line gives
+
+// A record without fault, its `count` levels from place `first` on.
+fn row_of(span: Span, first: usize, count: usize) -> Record
+    requires { ⌜ Fitting span × (first ≤ MOST-LEVELS-TOGETHER) × (count ≤ MOST-LEVELS) ⌝ }
+    ensures { λ r. ⌜ r ≡ rowFrom span first count ⌝ }
+{
+    Record {
+        a: widths::to_u8(widths::from_i32(span.a)),
+        b: widths::to_u8(widths::from_i32(span.b)),
+        first: widths::to_u16(first),
+        count: widths::to_u16(count),
+        lo: span.lo,
+        hi: span.hi,
+    }
+}
+
+// The form of line 1: two numbers.
+fn is_head(line: Line) -> bool
+    ensures { λ r. ⌜ r ≡ isHead line ⌝ }
+{
+    if line.number != 1 {
+        return false;
+    }
+    line.count == 2
+}
+
+// The form of a later line `rule`: four numbers.
+fn is_rule(line: Line) -> bool
+    ensures { λ r. ⌜ r ≡ isRule line ⌝ }
+{
+    if line.number == 1 {
+        return false;
+    }
+    line.count == 4
+}
+
+// The form of a later line `wish`: three numbers and one or more levels.
+fn is_wish(line: Line) -> bool
+    ensures { λ r. ⌜ r ≡ isWish line ⌝ }
+{
+    if line.number == 1 {
+        return false;
+    }
+    4 <= line.count
+}
+
+// The number of events and the horizon, both in range.
+fn head_of(n: i32, h: i32) -> Effect
+    requires { ⌜ headFault n h ≡ NO-FAULT ⌝ }
+    ensures { λ r. ⌜ r ≡ Head (natAbs n) (natAbs h) ⌝ }
+{
+    Effect::Head(widths::from_i32(n), widths::to_u32(widths::from_i32(h)))
+}
+
+// The line `events`.
+fn take_events(line: Line) -> Effect
+    requires { ⌜ length (line .fields) ≡ 4 ⌝ }
+    ensures { λ r. ⌜ r ≡ eventsEffect line ⌝ }
+{
+    if !is_head(line) {
+        return Effect::Fault(WRONG_FORM);
+    }
+    let n = line.fields[0];
+    let h = line.fields[1];
+    let fault = faults::head_fault(n, h);
+    if fault != NO_FAULT {
+        return Effect::Fault(fault);
+    }
+    head_of(n, h)
+}
+
+// A line `rule`.
+fn take_rule(line: Line, plan: SoFar) -> Effect
+    requires { ⌜ (length (line .fields) ≡ 4) × Room plan ⌝ }
+    ensures { λ r. ⌜ r ≡ ruleEffect line plan ⌝ }
+{
+    if !is_rule(line) {
+        return Effect::Fault(WRONG_FORM);
+    }
+    if !faults::has_room(plan, 0) {
+        return Effect::Fault(TOO_MANY);
+    }
+    let span = span_of(line);
+    let fault = faults::rule_fault(plan.events, span);
+    if fault != NO_FAULT {
+        return Effect::Fault(fault);
+    }
+    Effect::Entry(row_of(span, plan.levels, 0))
+}
+
+// What a wish gives whose levels are stored behind those of the others.
+fn wish_effect(line: Line, plan: SoFar, levels: &[u8]) -> Effect
+    requires { ⌜ (length (line .fields) ≡ 4) × Room plan × Roomy line plan × (MOST-LEVELS-TOGETHER ≤ length (now levels)) ⌝ }
+    ensures { λ r. ⌜ r ≡ wishEffect line plan (slice (plan .levels) (plan .levels + (line .count - 3)) (now (levels .entry))) ⌝ }
+{
+    let m = line.count - 3;
+    let at = plan.levels;
+    let span = wish_span(line, m);
+    let fault = faults::wish_fault(plan.events, span, levels, at, at + m);
+    if fault != NO_FAULT {
+        return Effect::Fault(fault);
+    }
+    Effect::Entry(row_of(span, at, m))
+}
+
+// A wish for which there is room: its levels are stored whatever they are, and tested where they stand.
+fn store_wish(text: &[u8], line: Line, plan: SoFar, levels: &mut [u8]) -> Effect
+    requires { ⌜ Whole (now text) line × Room plan × Roomy line plan × (MOST-LEVELS-TOGETHER ≤ length (now levels)) ⌝ }
+    ensures { λ r. ⌜ Stored (now (text .entry)) line plan (now (levels .entry)) (now (levels .exit)) r ⌝ }
+{
+    let from = after_three(text, line.first, line.end);
+    read_levels(text, from, line.end, levels, plan.levels);
+    wish_effect(line, plan, levels)
+}
+
+// A line `wish`.
+fn take_wish(text: &[u8], line: Line, plan: SoFar, levels: &mut [u8]) -> Effect
+    requires { ⌜ Whole (now text) line × Room plan × (MOST-LEVELS-TOGETHER ≤ length (now levels)) ⌝ }
+    ensures { λ r. ⌜ WishTaken (now (text .entry)) line plan (now (levels .entry)) (now (levels .exit)) r ⌝ }
+{
+    if !is_wish(line) {
+        return Effect::Fault(WRONG_FORM);
+    }
+    if !faults::has_room(plan, line.count - 3) {
+        return Effect::Fault(TOO_MANY);
+    }
+    store_wish(text, line, plan, levels)
+}
+
+// What a line gives whose numbers are all read: the tests of section 3 in their order. The levels of a wish are stored behind those of the others.
+pub fn take(text: &[u8], line: Line, plan: SoFar, levels: &mut [u8]) -> Effect
+    requires { ⌜ Whole (now text) line × Room plan × (MOST-LEVELS-TOGETHER ≤ length (now levels)) ⌝ }
+    ensures { λ r. ⌜ Gives (now (text .entry)) line plan (now (levels .entry)) (now (levels .exit)) r ⌝ }
+{
+    let word = line.word;
+    match word {
+        Word::Events => take_events(line),
+        Word::Rule => take_rule(line, plan),
+        Word::Wish => take_wish(text, line, plan, levels),
+        Word::Other => Effect::Fault(WRONG_FORM),
+    }
+}

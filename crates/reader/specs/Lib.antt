@@ -1,0 +1,2 @@
+-- What the reader promises.
+pub mod Heard
