@@ -1,0 +1,2 @@
+-- What joins the parts to the outcome.
+pub mod Settles
