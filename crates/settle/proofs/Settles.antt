@@ -7,7 +7,6 @@ use lib.ListN.{length}
 use lib.IntN.{ℤ, pos}
 use Rattle.meaning.specs.Plan as M
 use Rattle.meaning.specs.Plan.{MOST-EVENTS}
-use Rattle.meaning.specs.Reading.{plan}
 use Rattle.meaning.specs.Distances.{earliest}
 use Rattle.meaning.specs.Outcome as O
 use Rattle.meaning.specs.Outcome.{areas}
