@@ -1,6 +1,6 @@
 -- Any two steps that satisfy the promise of `step_of` are equal: a step is its four numbers.
 use mathlib.Core.Path.{_≡_, ap}
-use mathlib.Core.List.{List, [], _∷_}
+use mathlib.Core.List.{List}
 use Prim.Native.Nat.{ℕ}
 use lib.IntN.{ℤ, pos}
 use lib.ListN.{getD}

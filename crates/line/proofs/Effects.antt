@@ -15,12 +15,13 @@ use Rattle.meaning.specs.Numbers.{WRONG-FORM, TOO-MANY}
 use Rattle.meaning.specs.Reading.{item, eventsLine, ruleLine, wishLine, eventsForm, ruleForm, wishForm, lineStep, fault, withRecord}
 use Rattle.meaning.proofs.Tests.{both, count-to}
 use Rattle.plan.proofs.Padded.{sets-above}
-use Rattle.line.specs.declared.Line.{Line}
+use Rattle.fields.specs.declared.Line.{Line}
 use Rattle.faults.specs.declared.SoFar.{SoFar}
 use Rattle.faults.specs.declared.Span.{Span}
 use Rattle.line.specs.declared.Effect.{Effect}
 use Rattle.line.specs.declared.Effect.the-variants.{Fault, Head, Entry}
-use Rattle.line.specs.Lines.{Says, Counts, Numbered, Whole, Room, restOf}
+use Rattle.fields.specs.Fields.{Numbered, Whole, restOf}
+use Rattle.line.specs.Lines.{Says, Counts, Room}
 use Rattle.faults.specs.Faults.{NO-FAULT, unlessMet, firstFault, headFault, hasRoom, recordFault, entryFault}
 use Rattle.line.specs.Effects.{levelOf, spanOf, wishSpan, rowFrom}
 use Rattle.line.specs.Effects.{isHead, isRule, isWish, eventsEffect, ruleEffect, wishEffect, levelsOf, Stored, WishTaken}

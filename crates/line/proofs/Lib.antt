@@ -2,6 +2,5 @@
 mod Wishes
 mod Effects
 -- what other crates may cite
-pub mod Walks
 pub mod Judges
 pub mod One

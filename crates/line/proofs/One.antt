@@ -1,5 +1,5 @@
--- Any two results that satisfy a promise of this crate are equal. The promises `r ≡ …` of `begin` and `with_number` say so themselves; here are those of
--- `field_after` and `take`. After a fault `take` promises the area from MOST-LEVELS-TOGETHER on alone, since `read` clears what stands before.
+-- Any two effects that satisfy the promise of `take` are equal, and so are the areas; after a fault `take` promises the area from MOST-LEVELS-TOGETHER on
+-- alone, since `read` clears what stands before.
 use mathlib.Core.Path.{_≡_, refl, sym, ap, _∙_}
 use mathlib.Core.List.{List, [], _∷_}
 use Prim.Native.Nat.{ℕ, _≤_}
@@ -10,22 +10,11 @@ use Rattle.meaning.specs.Plan as M
 use Rattle.meaning.specs.Plan.{MOST-LEVELS-TOGETHER}
 use Rattle.meaning.specs.Reading.{Form, Step, taken, fault, withRecord, empty}
 use Rattle.plan.specs.Held.{rowOf, levelsIn}
-use Rattle.line.specs.declared.Line.{Line}
+use Rattle.fields.specs.declared.Line.{Line}
 use Rattle.faults.specs.declared.SoFar.{SoFar}
-use Rattle.line.specs.declared.Field.{Field}
-use Rattle.line.specs.declared.Field.the-variants.{Number, Wrong}
 use Rattle.line.specs.declared.Effect.{Effect}
 use Rattle.line.specs.declared.Effect.the-variants.{Fault, Head, Entry}
-use Rattle.line.specs.Lines.{FieldRead, Counts, Says, Gives, formIn}
-
--- any two fields behind the same tab are equal
-pub one-field : (text : List ℕ) (p end : ℕ) (q r : Field) → FieldRead text p end q → FieldRead text p end r → q ≡ r
-one-field text p end (Number v i) (Number w j) a b = cc
-one-field text p end (Number v i) Wrong a b = let z : _≡_ {A = ℕ} 0 1 = cc in absurd (omega arith)
-one-field text p end Wrong (Number w j) a b = let z : _≡_ {A = ℕ} 0 1 = cc in absurd (omega arith)
-one-field text p end Wrong Wrong a b = refl
-
--- ---- `take`
+use Rattle.line.specs.Lines.{Counts, Says, Gives, formIn}
 
 -- all of the area, but after a fault only the part that is promised
 abbrev pub SameArea : Effect → List ℕ → List ℕ → Type 0

@@ -14,10 +14,10 @@ use Rattle.plan.specs.declared.Record.{Record}
 use Rattle.faults.specs.declared.SoFar.{SoFar}
 use Rattle.faults.specs.declared.Span.{Span}
 use Rattle.faults.specs.Faults.{unlessMet, firstFault, headFault, hasRoom, recordFault, entryFault}
-use Rattle.line.specs.declared.Line.{Line}
+use Rattle.fields.specs.declared.Line.{Line}
 use Rattle.line.specs.declared.Effect.{Effect}
 use Rattle.line.specs.declared.Effect.the-variants.{Fault, Head, Entry}
-use Rattle.line.specs.Lines.{restOf}
+use Rattle.fields.specs.Fields.{restOf}
 
 -- ---- levels as they are stored
 

@@ -1,43 +1,22 @@
 -- What one line of a text gives: its numbers, and what it does to the plan read so far.
 use mathlib.Core.Path.{_≡_}
-use mathlib.Core.Option.{Option, none, some}
-use mathlib.Core.List.{List, [], _∷_}
+use mathlib.Core.List.{List, []}
 use Prim.Native.Nat.{ℕ, _+_, _≤_, _<_}
-use lib.ListN.{length, getD, set, drop}
+use lib.ListN.{length, getD, drop}
 use lib.Seq.{slice, sets}
-use lib.IntN.{ℤ, pos}
+use lib.IntN.{ℤ}
 use Rattle.meaning.specs.Plan as M
 use Rattle.meaning.specs.Plan.{MOST-EVENTS, MOST-RECORDS, MOST-LEVELS-TOGETHER}
-use Rattle.meaning.specs.Reading.{TAB, item, numberOf, numbers, Form, wrong, eventsForm, ruleForm, wishForm}
-use Rattle.meaning.specs.Reading.{taken, fault, lineStep, withRecord, levelsTogether}
-use Rattle.text.specs.Bytes.{until, after}
-use Rattle.text.specs.Words.{wordOf}
+use Rattle.meaning.specs.Reading.{Form, wrong, eventsForm, ruleForm, wishForm, taken, fault, lineStep, withRecord, levelsTogether}
 use Rattle.text.specs.declared.Word.{Word}
 use Rattle.text.specs.declared.Word.the-variants.{Events, Rule, Wish, Other}
 use Rattle.plan.specs.Held.{levelsIn, rowOf}
 use Rattle.plan.specs.declared.Record.{Record}
-use Rattle.line.specs.declared.Line.{Line}
 use Rattle.faults.specs.declared.SoFar.{SoFar}
-use Rattle.line.specs.declared.Field.{Field}
-use Rattle.line.specs.declared.Field.the-variants.{Number, Wrong}
+use Rattle.fields.specs.declared.Line.{Line}
+use Rattle.fields.specs.Fields.{restOf, Fielded}
 use Rattle.line.specs.declared.Effect.{Effect}
 use Rattle.line.specs.declared.Effect.the-variants.{Fault, Head, Entry}
-
--- ---- the numbers of a line
-
-abbrev pub orNone : Option (List ℤ) → List ℤ
-orNone none = []
-orNone (some vs) = vs
-
--- the numbers that follow a tab at the front, where the fields are numbers
-abbrev pub restOf : List ℕ → List ℤ
-restOf l = orNone (numbers (after TAB l))
-
--- the fields from place p of the text to the end of the line are numbers
-pub record Fielded (text : List ℕ) (p end : ℕ) : Type 0 where
-  pub inside : p ≤ end
-  pub within : end ≤ length text
-  pub all : numbers (after TAB (slice p end text)) ≡ some (restOf (slice p end text))
 
 -- r is the place from which the numbers but the first three are left
 pub record AfterThree (text : List ℕ) (first end r : ℕ) : Type 0 where
@@ -87,50 +66,6 @@ abbrev pub Says : ℕ → Form → ℕ → ℕ → ℕ → List ℕ → List ℕ
 Says line f n count used before after (Fault k) = Faulted line f n count used before after k
 Says line f n count used before after (Head m h) = Headed line f before after m h
 Says line f n count used before after (Entry r) = Entered line f n count used before after r
-
--- ---- a line as a struct
-
--- the line from `at` up to `end`, none of its numbers read
-abbrev pub begun : List ℕ → ℕ → ℕ → ℕ → Line
-begun text number at end = record {
-  number = number;
-  word = wordOf (slice at (at + until TAB (slice at end text)) text);
-  first = at + until TAB (slice at end text);
-  «end» = end;
-  count = 0;
-  fields = pos 0 ∷ pos 0 ∷ pos 0 ∷ pos 0 ∷ [];
-}
-
--- one number more: the first four are kept
-abbrev pub withNumber : Line → ℤ → Line
-withNumber l v = record {
-  number = l .number;
-  word = l .word;
-  first = l .first;
-  «end» = l .«end»;
-  count = l .count + 1;
-  fields = set (l .fields) (l .count) v;
-}
-
--- the place where the field behind the tab at p ends
-abbrev pub fieldEnd : List ℕ → ℕ → ℕ → ℕ
-fieldEnd text p end = p + 1 + until TAB (slice (p + 1) end text)
-
--- the field behind the tab at p
-abbrev pub FieldRead : List ℕ → ℕ → ℕ → Field → Type 0
-FieldRead text p end (Number v next) = (next ≡ fieldEnd text p end) × (numberOf (slice (p + 1) (fieldEnd text p end) text) ≡ some v)
-FieldRead text p end Wrong = numberOf (slice (p + 1) (fieldEnd text p end) text) ≡ none
-
--- the struct has the numbers vs
-pub record Numbered (vs : List ℤ) (l : Line) : Type 0 where
-  pub count : l .count ≡ length vs
-  pub size : length (l .fields) ≡ 4
-  pub at : (k : ℕ) → k < 4 → getD (l .fields) k (pos 0) ≡ item vs k
-
--- all fields of the line are read, and they are numbers
-pub record Whole (text : List ℕ) (l : Line) : Type 0 where
-  pub fielded : Fielded text (l .first) (l .«end»)
-  pub numbered : Numbered (restOf (slice (l .first) (l .«end») text)) l
 
 pub record Room (s : SoFar) : Type 0 where
   pub events : s .events ≤ MOST-EVENTS

@@ -1,12 +1,13 @@
-// What one line of a text gives: its fields, the tests of section 3 in their order, and the record that it adds to the plan.
+// What one line of a text gives: the tests of section 3 in their order, and the record that it adds to the plan.
 ghost use mathlib.Core.Path.{_≡_};
 ghost use mathlib.Core.List.{map};
 ghost use Prim.Native.Nat.{_+_, _-_, _≤_, _<_};
 ghost use lib.ListN.{length};
 ghost use lib.Seq.{slice, sets};
 ghost use lib.IntN.{natAbs};
-ghost use Rattle.meaning.specs.Plan.{MOST-LEVELS, MOST-LEVELS-TOGETHER, MOST-BYTES};
-ghost use Rattle.line.specs.Lines.{restOf, Fielded, AfterThree, begun, withNumber, FieldRead, Whole, Room, Gives};
+ghost use Rattle.meaning.specs.Plan.{MOST-LEVELS, MOST-LEVELS-TOGETHER};
+ghost use Rattle.fields.specs.Fields.{restOf, Fielded, Whole};
+ghost use Rattle.line.specs.Lines.{AfterThree, Room, Gives};
 ghost use Rattle.faults.specs.Faults.{NO-FAULT, Fitting, headFault};
 ghost use Rattle.line.specs.declared.Effect.the-variants.{Head};
 ghost use Rattle.line.specs.Effects.{levelOf, lastFrom, spanOf, wishSpan, rowFrom, isHead, isRule, isWish, Roomy};
@@ -14,10 +15,11 @@ ghost use Rattle.line.specs.Effects.{eventsEffect, ruleEffect, wishEffec
 use faults::NO_FAULT;
 use faults::SoFar;
 use faults::Span;
+use fields::Field;
+use fields::Line;
 use plan::Record;
 use scope::TOO_MANY;
 use scope::WRONG_FORM;
-use text::Number;
 use text::Word;
 
 const TAB: u8 = 9;
@@ -28,74 +30,11 @@ const TOP_LEVEL: i32 = scope::TOP_LEVEL as i32;
 // How a number is stored that is no level.
 const NO_LEVEL: u8 = scope::TOP_LEVEL + 1;
 
-// A line as far as it is read: its number, its word, the place where its word ends, the place where it ends, how many numbers were read, and the
-// first four of them.
-pub struct Line {
-    pub number: usize,
-    pub word: Word,
-    pub first: usize,
-    pub end: usize,
-    pub count: usize,
-    pub fields: [i32; 4],
-}
-
-// The field behind a tab: its number and the place where it ends, or that it is no number.
-pub enum Field {
-    Number(i32, usize),
-    Wrong,
-}
-
 // What a line gives: a fault, the number of events and the horizon, or one record more.
 pub enum Effect {
     Fault(u8),
     Head(usize, u32),
     Entry(Record),
-}
-
-// ---- the fields of a line
-
-// The line from `at` up to `end`, none of its numbers read.
-pub fn begin(text: &[u8], number: usize, at: usize, end: usize) -> Line
-    requires { ⌜ (at ≤ end) × (end ≤ length (now text)) ⌝ }
-    ensures { λ r. ⌜ r ≡ begun (now (text .entry)) number at end ⌝ }
-{
-    let first = text::find(text, at, end, TAB);
-    let word = text::read_word(text, at, first);
-    Line {
-        number: number,
-        word: word,
-        first: first,
-        end: end,
-        count: 0,
-        fields: [0; 4],
-    }
-}
-
-// The field behind the tab at p, in a line that ends at `end`.
-pub fn field_after(text: &[u8], p: usize, end: usize) -> Field
-    requires { ⌜ (p < end) × (end ≤ length (now text)) ⌝ }
-    ensures { λ r. ⌜ FieldRead (now (text .entry)) p end r ⌝ }
-{
-    let next = text::find(text, p + 1, end, TAB);
-    match text::read_number(text, p + 1, next) {
-        Number::Value(v) => Field::Number(v, next),
-        Number::Stopped(_) => Field::Wrong,
-    }
-}
-
-// One number more.
-pub fn with_number(line: Line, v: i32) -> Line
-    requires { ⌜ (line .count < MOST-BYTES) × (length (line .fields) ≡ 4) ⌝ }
-    ensures { λ r. ⌜ r ≡ withNumber line v ⌝ }
-{
-    let mut more = line;
-    let k = more.count;
-    more.count = k + 1;
-    if 4 <= k {
-        return more;
-    }
-    more.fields[k] = v;
-    more
 }
 
 // ---- the levels of a wish
@@ -130,7 +69,7 @@ fn read_levels(text: &[u8], from: usize, end: usize, levels: &mut [u8], used: us
     let mut p = from;
     let mut k = used;
     while p < end {
-        match field_after(text, p, end) {
+        match fields::field_after(text, p, end) {
             Field::Number(v, next) => {
                 levels[k] = level_of(v);
                 p = next;

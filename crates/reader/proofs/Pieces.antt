@@ -20,7 +20,7 @@ use Rattle.meaning.specs.Reading.{TAB, LINE-FEED, split, numberOf, numbers, joi
 use Rattle.meaning.specs.Reading.{readPieces, afterStep, plan, refused}
 use Rattle.meaning.specs.Numbers.{WRONG-FORM}
 use Rattle.line.specs.Lines.{wordForm}
-use Rattle.line.proofs.Walks.{fields-step}
+use Rattle.fields.proofs.Walks.{fields-step}
 
 -- ---- the numbers seen so far, and those that are left
 

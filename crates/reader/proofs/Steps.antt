@@ -23,13 +23,14 @@ use Rattle.plan.specs.declared.Record.{Record}
 use Rattle.plan.specs.Held.{levelsIn, Holds, LevelsHeld}
 use Rattle.plan.proofs.Growth.{withRow, holds-more, held-more}
 use Rattle.plan.proofs.Padded.{all-same, one-more}
-use Rattle.line.specs.declared.Line.{Line}
+use Rattle.fields.specs.declared.Line.{Line}
 use Rattle.faults.specs.declared.SoFar.{SoFar}
-use Rattle.line.specs.declared.Field.the-variants.{Number, Wrong}
+use Rattle.fields.specs.declared.Field.the-variants.{Number, Wrong}
 use Rattle.line.specs.declared.Effect.the-variants.{Fault, Head, Entry}
-use Rattle.line.specs.Lines.{begun, withNumber, fieldEnd, FieldRead, Numbered, Whole, Room, Counts, Gives, formIn}
+use Rattle.fields.specs.Fields.{begun, withNumber, fieldEnd, FieldRead, Numbered, Whole}
+use Rattle.line.specs.Lines.{Room, Counts, Gives, formIn}
 use Rattle.line.proofs.Judges.{step-wrong}
-use Rattle.line.proofs.Walks as W
+use Rattle.fields.proofs.Walks as W
 use Rattle.reader.proofs.Pieces as P
 use Rattle.reader.specs.declared.Verdict.the-variants.{Taken, Refused}
 use Rattle.reader.specs.Heard.{Walked, verdictOf, verdictAt}

@@ -7,8 +7,8 @@ ghost use Rattle.meaning.specs.Reading.{empty};
 ghost use Rattle.plan.specs.Held.{LevelsHeld};
 ghost use Rattle.reader.specs.Heard.{Cleared, Refusal, Read, Walked, verdictAt};
 use faults::SoFar;
+use fields::Field;
 use line::Effect;
-use line::Field;
 use plan::Plan;
 use scope::AREA_TOO_SHORT;
 use scope::MOST_BYTES;
@@ -69,12 +69,12 @@ fn read_lines(text: &[u8], levels: &mut [u8]) -> Answer
             fault = WRONG_FORM;
             break 'lines;
         }
-        let mut line = line::begin(text, number, at, end);
+        let mut line = fields::begin(text, number, at, end);
         let mut tab = line.first;
         while tab < end {
-            match line::field_after(text, tab, end) {
+            match fields::field_after(text, tab, end) {
                 Field::Number(v, next) => {
-                    line = line::with_number(line, v);
+                    line = fields::with_number(line, v);
                     tab = next;
                 }
                 Field::Wrong => {

@@ -20,9 +20,10 @@ use Rattle.meaning.proofs.Over.{over-front, over-room}
 use Rattle.meaning.proofs.Refusals.{Refusal, refused-number}
 use Rattle.meaning.specs.Numbers.{SOLVED, NO-TIMETABLE, WRONG-FORM, AREA-TOO-SHORT}
 use Rattle.reader.specs.Heard.{planIn}
-use Rattle.solver.specs.declared.Outcome.{Outcome as Found}
-use Rattle.solver.specs.declared.Outcome.the-variants as Out
-use Rattle.solver.specs.Settled.{numberOf, placeOf, named, Solves}
+use Rattle.settle.specs.declared.Outcome.{Outcome as Found}
+use Rattle.settle.specs.declared.Outcome.the-variants as Out
+use Rattle.settle.specs.Settled.{numberOf, placeOf, named}
+use Rattle.solver.specs.Solves.{Solves}
 use Rattle.forms.specs.Printed.{printed}
 use Rattle.forms.specs.Put.{AREA, Put}
 use Rattle.report.specs.Answer.{Told, Answered}

@@ -2,14 +2,14 @@
 ghost use mathlib.Core.List.{List};
 ghost use Prim.Native.Nat.{ℕ, _≤_};
 ghost use lib.ListN.{length};
-ghost use Rattle.solver.specs.Settled.{ReadInto};
+ghost use Rattle.solver.specs.Solves.{ReadInto};
 ghost use Rattle.forms.specs.Put.{AREA};
 ghost use Rattle.report.specs.Answer.{Told, Answered};
 use forms::AREA;
 use reader::Answer;
 use scope::MOST_EVENTS;
 use scope::MOST_RECORDS;
-use solver::Outcome;
+use settle::Outcome;
 
 // The form of the outcome of what the reader said.
 fn put_outcome(out: &mut [u8], said: Answer, held: &[u8]) -> usize

@@ -1,3 +1,3 @@
 -- What joins the parts to the promise, and what follows from it.
-pub mod Settles
+pub mod Heard
 pub mod Promised

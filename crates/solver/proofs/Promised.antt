@@ -15,8 +15,9 @@ use Rattle.meaning.proofs.Promises.{one-promise}
 use Rattle.meaning.proofs.Demands.{demand-1, demand-2, demand-3, optimal}
 use Rattle.meaning.proofs.Idle.{known-plans, refuses-no-plan, counts-steps}
 use Rattle.reader.specs.declared.Answer.{Answer}
-use Rattle.solver.specs.declared.Outcome.{Outcome as Found}
-use Rattle.solver.specs.Settled.{numberOf, placeOf, named, ReadInto, Solves}
+use Rattle.settle.specs.declared.Outcome.{Outcome as Found}
+use Rattle.settle.specs.Settled.{numberOf, placeOf, named}
+use Rattle.solver.specs.Solves.{ReadInto, Solves}
 
 -- ---- one answer only
 

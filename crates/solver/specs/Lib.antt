@@ -1,2 +1,2 @@
--- What the contracts of `solver` cite.
-pub mod Settled
+-- What the entry point promises.
+pub mod Solves

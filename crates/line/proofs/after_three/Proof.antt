@@ -7,8 +7,8 @@ use lib.ListN.{length, drop, length-drop}
 use lib.Seq.{slice, drop-drop}
 use Rattle.text.specs.Bytes.{until}
 use Rattle.meaning.specs.Reading.{TAB}
-use Rattle.line.specs.Lines.{restOf, Fielded}
-use Rattle.line.proofs.Walks.{rest-inside, rest-next}
+use Rattle.fields.specs.Fields.{restOf, Fielded}
+use Rattle.fields.proofs.Walks.{rest-inside, rest-next}
 use borrow.Author.Needs.{needs}
 use Rattle.line.proofs.after_three.Statement.{statement}
 use Rattle.line.proofs.after_three.Tie as tie

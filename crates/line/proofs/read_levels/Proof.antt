@@ -12,10 +12,10 @@ use mir.Syntax.{w32}
 use mir.Val.{SFits}
 use borrow.Author.Needs.{needs}
 use Rattle.meaning.specs.Plan.{MOST-LEVELS-TOGETHER}
-use Rattle.line.specs.declared.Field.the-variants.{Number}
-use Rattle.line.specs.Lines.{restOf, Fielded, FieldRead}
+use Rattle.fields.specs.declared.Field.the-variants.{Number}
+use Rattle.fields.specs.Fields.{restOf, Fielded, FieldRead}
 use Rattle.line.specs.Effects.{levelOf}
-use Rattle.line.proofs.Walks.{field-in, rest-number, rest-wrong, rest-end}
+use Rattle.fields.proofs.Walks.{field-in, rest-number, rest-wrong, rest-end}
 use Rattle.line.proofs.read_levels.Statement.{statement}
 use Rattle.line.proofs.read_levels.Tie as tie
 

@@ -7,7 +7,7 @@ use lib.ListN.{length, drop, length-drop, length-map}
 use lib.IntN.{ℤ}
 use lib.Seq.{slice, sets}
 use borrow.Author.Needs.{needs}
-use Rattle.line.specs.Lines.{restOf}
+use Rattle.fields.specs.Fields.{restOf}
 use Rattle.line.specs.Effects.{levelOf, levelsOf, wishEffect}
 use Rattle.faults.proofs.Firsts.{Limits, limits}
 use Rattle.line.proofs.Wishes.{stored-slice}

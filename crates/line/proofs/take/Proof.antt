@@ -11,7 +11,8 @@ use Rattle.text.specs.declared.Word.the-variants.{Events, Rule, Wish, Other}
 use Rattle.meaning.specs.Numbers.{WRONG-FORM}
 use Rattle.line.specs.declared.Effect.{Effect}
 use Rattle.line.specs.declared.Effect.the-variants.{Fault}
-use Rattle.line.specs.Lines.{Says, restOf, wordForm}
+use Rattle.fields.specs.Fields.{restOf}
+use Rattle.line.specs.Lines.{Says, wordForm}
 use Rattle.line.proofs.Judges as J
 use Rattle.line.proofs.Effects.{events-says, rule-says, wish-says}
 use Rattle.line.proofs.take.Statement.{statement}

@@ -14,10 +14,11 @@ use Rattle.meaning.specs.Plan.{MOST-BYTES, MOST-LEVELS-TOGETHER}
 use Rattle.meaning.specs.Numbers.{WRONG-FORM}
 use Rattle.plan.specs.declared.Plan.{Plan}
 use Rattle.plan.proofs.Growth.{withRow}
-use Rattle.line.specs.Lines.{begun, FieldRead, Gives}
+use Rattle.fields.specs.Fields.{begun, FieldRead}
+use Rattle.line.specs.Lines.{Gives}
 use Rattle.line.specs.declared.Effect.{Effect}
 use Rattle.line.specs.declared.Effect.the-variants.{Entry}
-use Rattle.line.specs.declared.Field.the-variants.{Number}
+use Rattle.fields.specs.declared.Field.the-variants.{Number}
 use Rattle.reader.proofs.Steps as S
 use Rattle.reader.proofs.Steps.{Walking, Current, Scanning, Left, withHead}
 use Rattle.reader.proofs.read_lines.Statement.{statement}

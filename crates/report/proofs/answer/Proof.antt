@@ -4,7 +4,7 @@ use native.Mathlib.Nat.{le-refl}
 use native.Mathlib.Omega.{arith}
 use borrow.Author.Needs.{needs}
 use Rattle.meaning.specs.Plan.{MOST-LEVELS-TOGETHER}
-use Rattle.solver.specs.Settled.{ReadInto}
+use Rattle.solver.specs.Solves.{ReadInto}
 use Rattle.report.proofs.Outcomes.{long-told}
 use Rattle.report.proofs.answer.Statement.{statement}
 use Rattle.report.proofs.answer.Tie as tie

@@ -10,8 +10,8 @@ use Rattle.meaning.specs.Reading.{read}
 use Rattle.plan.specs.Held.{Holds}
 use Rattle.reader.specs.Heard.{planIn}
 use Rattle.reader.proofs.Answers.{read-holds}
-use Rattle.solver.specs.declared.Outcome.the-variants as Out
-use Rattle.solver.specs.Settled.{ReadInto}
+use Rattle.settle.specs.declared.Outcome.the-variants as Out
+use Rattle.solver.specs.Solves.{ReadInto}
 use Rattle.forms.specs.Timed.{Timed}
 use Rattle.report.proofs.Outcomes.{LeftSolved, LeftNone, LeftRefused, left-solved, left-none, left-refused, told}
 use Rattle.report.proofs.put_outcome.Statement.{statement}

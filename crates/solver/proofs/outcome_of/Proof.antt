@@ -4,7 +4,7 @@ use Rattle.meaning.specs.Reading.{read}
 use Rattle.meaning.specs.Outcome.{areas}
 use Rattle.meaning.proofs.Demands.{long-areas}
 use Rattle.reader.specs.Heard.{planIn}
-use Rattle.solver.proofs.Settles.{settled-solves, fault-solves, read-fault, read-plan, read-memory}
+use Rattle.solver.proofs.Heard.{settled-solves, fault-solves, read-fault, read-plan, read-memory}
 use Rattle.solver.proofs.outcome_of.Statement.{statement}
 use Rattle.solver.proofs.outcome_of.Tie as tie
 

@@ -5,8 +5,8 @@ use borrow.Author.Needs.{needs}
 use borrow.Author.Tests.{not-true, not-false}
 use Rattle.meaning.specs.Plan.{MOST-LEVELS-TOGETHER}
 use Rattle.meaning.specs.Outcome.{Areas, areas}
-use Rattle.solver.specs.Settled.{ReadInto}
-use Rattle.solver.proofs.Settles.{short-solves}
+use Rattle.solver.specs.Solves.{ReadInto}
+use Rattle.solver.proofs.Heard.{short-solves}
 use Rattle.solver.proofs.solve.Statement.{statement}
 use Rattle.solver.proofs.solve.Tie as tie
 

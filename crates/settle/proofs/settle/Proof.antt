@@ -1,13 +1,13 @@
--- `solver::settle` meets its contract: the bounds are added from the horizon on; where one fails the chain is the outcome, else the ladder is
+-- `settle::settle` meets its contract: the bounds are added from the horizon on; where one fails the chain is the outcome, else the ladder is
 -- climbed and the least times are read off. Each step is a law of `Settles`.
 use borrow.Author.Needs.{needs}
 use Rattle.meaning.specs.Plan as M
 use Rattle.bounds.specs.Listed.{Listed}
 use Rattle.ladder.specs.Memory.{InMemory}
 use Rattle.ladder.specs.Climbed.{Ready}
-use Rattle.solver.proofs.Settles.{settle-trying, settle-broken, settle-ready, settle-chained, chained-settled, climbed-timing, climbed-settled}
-use Rattle.solver.proofs.settle.Statement.{statement}
-use Rattle.solver.proofs.settle.Tie as tie
+use Rattle.settle.proofs.Settles.{settle-trying, settle-broken, settle-ready, settle-chained, chained-settled, climbed-timing, climbed-settled}
+use Rattle.settle.proofs.settle.Statement.{statement}
+use Rattle.settle.proofs.settle.Tie as tie
 
 -- ---- the places that facts come from
 

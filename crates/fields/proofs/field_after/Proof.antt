@@ -1,4 +1,4 @@
--- `line::field_after` meets its contract: the next tab, or the end, is where the field ends, and `read_number` says what stands before it.
+-- `fields::field_after` meets its contract: the next tab, or the end, is where the field ends, and `read_number` says what stands before it.
 use mathlib.Core.Path.{refl, sym, ap, _∙_}
 use Prim.Native.Nat.{_+_, _≤_}
 use native.Mathlib.Omega.{arith}
@@ -6,10 +6,10 @@ use mir.Facts.{toZ-ofZ}
 use mir.Syntax.{w32}
 use mir.Val.{SFits}
 use Rattle.text.specs.Answers.{numberAs}
-use Rattle.line.proofs.Walks.{field-in}
+use Rattle.fields.proofs.Walks.{field-in}
 use borrow.Author.Needs.{needs}
-use Rattle.line.proofs.field_after.Statement.{statement}
-use Rattle.line.proofs.field_after.Tie as tie
+use Rattle.fields.proofs.field_after.Statement.{statement}
+use Rattle.fields.proofs.field_after.Tie as tie
 
 inside : (c : tie.After-find) → let s = c .before .before in (s .args .p + 1 ≤ c .find .result) × (c .find .result ≤ s .args .end)
 inside c =

@@ -13,8 +13,8 @@ use lib.Seq.{slice}
 use Rattle.text.specs.Bytes.{until, after}
 use Rattle.text.proofs.Cuts.{cut, cut-in, after-step, after-end}
 use Rattle.meaning.specs.Reading.{TAB, numberOf, numbers, join}
-use Rattle.line.specs.declared.Field.the-variants.{Number, Wrong}
-use Rattle.line.specs.Lines.{restOf, orNone, Fielded, fieldEnd, FieldRead}
+use Rattle.fields.specs.declared.Field.the-variants.{Number, Wrong}
+use Rattle.fields.specs.Fields.{restOf, orNone, Fielded, fieldEnd, FieldRead}
 
 -- where the walk stands at p, before a field that ends at k
 pub fields-step : (s : List ℕ) (p e k : ℕ) → p < e → e ≤ length s → k ≡ p + 1 + until TAB (slice (p + 1) e s)

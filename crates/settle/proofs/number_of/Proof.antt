@@ -1,7 +1,7 @@
--- `solver::number_of` meets its contract: case by case, as the definition goes.
+-- `settle::number_of` meets its contract: case by case, as the definition goes.
 use borrow.Author.Needs.{needs}
-use Rattle.solver.proofs.number_of.Statement.{statement}
-use Rattle.solver.proofs.number_of.Tie as tie
+use Rattle.settle.proofs.number_of.Statement.{statement}
+use Rattle.settle.proofs.number_of.Tie as tie
 
 enum-told : tie.Need-enum-told
 enum-told c = search needs

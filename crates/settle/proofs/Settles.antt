@@ -1,28 +1,19 @@
--- From what the parts of `settle` and `solve` promise one another to the outcome of a plan, and from that to the promise.
+-- From what the parts of `settle` promise one another to the outcome of a plan.
 use mathlib.Core.Path.{_≡_, refl, sym, ap, _∙_}
-use mathlib.Core.Bool.{true, false}
 use mathlib.Core.List.{List}
-use Prim.Native.Nat.{ℕ, zero, suc, _+_, _*_, _-_, _≤_, _<_}
+use Prim.Native.Nat.{ℕ, _+_, _*_, _-_, _≤_, _<_}
 use native.Mathlib.Omega.{arith}
 use lib.ListN.{length}
 use lib.IntN.{ℤ, pos}
 use Rattle.meaning.specs.Plan as M
 use Rattle.meaning.specs.Plan.{MOST-EVENTS}
-use Rattle.meaning.specs.Reading.{plan, refused, read}
-use Rattle.meaning.specs.Numbers.{WRONG-FORM, AREA-TOO-SHORT}
 use Rattle.meaning.specs.Distances.{earliest}
 use Rattle.meaning.specs.Outcome as O
-use Rattle.meaning.specs.Outcome.{Areas, areas, longEnough, heard}
+use Rattle.meaning.specs.Outcome.{areas}
 use Rattle.meaning.specs.Faultless.{WithoutFault}
 use Rattle.meaning.proofs.Levels.{levels-count}
-use Rattle.meaning.proofs.ReadGood.{read-faultless}
-use Rattle.meaning.proofs.Refusals.{refused-number}
 use Rattle.meaning.proofs.Solve.{earliest-solved}
 use Rattle.plan.specs.declared.Plan.{Plan}
-use Rattle.reader.specs.declared.Answer.{Answer}
-use Rattle.reader.specs.declared.Verdict.the-variants as Said
-use Rattle.reader.specs.Heard.{planIn}
-use Rattle.reader.proofs.Answers.{read-refused, read-taken, read-holds, read-held}
 use Rattle.distances.specs.Matrix.{at, Started, Timing}
 use Rattle.distances.specs.Sweep.{Swept}
 use Rattle.distances.proofs.Sweep.{swept-written}
@@ -32,12 +23,9 @@ use Rattle.bounds.specs.Listed.{Listed}
 use Rattle.bounds.specs.Tried.{Trying, Tried}
 use Rattle.ladder.specs.Climbed.{Ready, Climbed}
 use Rattle.ladder.specs.Memory.{InMemory}
-use Rattle.solver.specs.Settled.{named, ReadInto, Settled, Solves}
-use Rattle.solver.specs.declared.Outcome.{Outcome}
-use Rattle.solver.specs.declared.Outcome.the-variants as Out
+use Rattle.settle.specs.Settled.{Settled}
+use Rattle.settle.specs.declared.Outcome.the-variants as Out
 use Rattle.bounds.proofs.Ends.{Chained, start-trying, all-net, all-stands, clash-broken, found-chained}
-
--- ---- the outcome of a plan in memory
 
 -- the places in the list as the code counts them
 abbrev pub horizonPlace : Plan → ℕ
@@ -105,47 +93,3 @@ module _ {p : M.Plan} {d d′ : List ℤ} {before after : List ℕ} {r : ℕ} (w
         variant = refl;
         writes = λ i. areas (k .over-old i) (c .written i) chain;
       }
-
--- ---- the promise
-
--- a refusal is named by its number
-refusal-named : (k line : ℕ) → WRONG-FORM ≤ k → Out.Refused k line ≡ named k line
-refusal-named zero line h = absurd (omega arith)
-refusal-named (suc zero) line h = absurd (omega arith)
-refusal-named (suc (suc k)) line h = refl
-
-module _ (text : List ℕ) (a : Areas) where
-  refused-solves : {k line : ℕ} → WRONG-FORM ≤ k → heard a text ≡ refused k line → Solves text a a (Out.Refused k line)
-  refused-solves {k} {line} l e = record {
-    promise = record { outcome = O.refusal k line; right = rw e (refl, refl); numbered = refl; placed = refl; writes = refl };
-    variant = refusal-named k line l;
-  }
-
-  -- an area is too short
-  pub short-solves : longEnough a ≡ false → Solves text a a (Out.Refused AREA-TOO-SHORT 0)
-  short-solves e = refused-solves (omega arith) (rw e)
-
-  -- the first fault of the text
-  pub fault-solves : {k line : ℕ} → longEnough a ≡ true → read text ≡ refused k line → Solves text a a (Out.Refused k line)
-  fault-solves l e = refused-solves (refused-number text e .low) (rw (l, e))
-
-  pub settled-solves : longEnough a ≡ true → {p : M.Plan} {after : Areas} {r : Outcome} → read text ≡ plan p → Settled p a after r → Solves text a after r
-  settled-solves l e s = record {
-    promise = record { outcome = s .outcome; right = rw (l, e) (s .right); numbered = s .numbered; placed = s .placed; writes = s .writes };
-    variant = s .variant;
-  }
-
--- ---- what the reader leaves
-
-module _ {text held : List ℕ} {a : Answer} (r : ReadInto text held a) where
-  pub read-fault : {k line : ℕ} → a .verdict ≡ Said.Refused k line → read text ≡ refused k line
-  read-fault e = read-refused (r .read) (r .room) e
-
-  module _ (e : a .verdict ≡ Said.Taken) where
-    pub read-plan : read text ≡ plan (planIn (read text))
-    read-plan = read-taken (r .read) (r .room) e
-
-    pub read-memory : InMemory (planIn (read text)) (a .plan) held
-    read-memory =
-        let v = read-held (r .read) (r .room) in
-        record { holds = read-holds (r .read) (r .room); faultless = read-faultless text read-plan; room = omega (arith, v .long, r .room); levels = v .done }

@@ -1,9 +1,9 @@
--- `line::with_number` meets its contract: a fifth number is stored nowhere, since the list has only four places.
+-- `fields::with_number` meets its contract: a fifth number is stored nowhere, since the list has only four places.
 use native.Mathlib.Omega.{arith}
 use lib.Seq.{set-out}
 use borrow.Author.Needs.{needs}
-use Rattle.line.proofs.with_number.Statement.{statement}
-use Rattle.line.proofs.with_number.Tie as tie
+use Rattle.fields.proofs.with_number.Statement.{statement}
+use Rattle.fields.proofs.with_number.Tie as tie
 
 add-more : tie.Need-add-more
 add-more c = search needs

@@ -1,10 +1,10 @@
--- `line::begin` meets its contract: the first tab, or the end, is where the word ends.
+-- `fields::begin` meets its contract: the first tab, or the end, is where the word ends.
 use native.Mathlib.Omega.{arith}
 use Rattle.meaning.specs.Reading.{TAB}
 use Rattle.text.proofs.Cuts.{cut-in}
 use borrow.Author.Needs.{needs}
-use Rattle.line.proofs.begin.Statement.{statement}
-use Rattle.line.proofs.begin.Tie as tie
+use Rattle.fields.proofs.begin.Statement.{statement}
+use Rattle.fields.proofs.begin.Tie as tie
 
 find-requires : tie.Need-find-requires
 find-requires c κs = search needs

@@ -5,17 +5,15 @@ use Prim.Native.Nat.{ℕ, zero, suc, _≤_}
 use lib.ListN.{length}
 use lib.IntN.{ℤ}
 use Rattle.meaning.specs.Plan as M
-use Rattle.meaning.specs.Plan.{MOST-EVENTS, MOST-RECORDS, MOST-LEVELS-TOGETHER}
+use Rattle.meaning.specs.Plan.{MOST-EVENTS, MOST-RECORDS}
 use Rattle.meaning.specs.Reading.{plan}
 use Rattle.meaning.specs.Outcome as O
-use Rattle.meaning.specs.Outcome.{Areas, Right, number, place, written, Promise}
+use Rattle.meaning.specs.Outcome.{Areas, Right, number, place, written}
 use Rattle.meaning.specs.Numbers.{SOLVED, NO-TIMETABLE}
 use Rattle.plan.specs.declared.Plan.{Plan}
-use Rattle.reader.specs.declared.Answer.{Answer}
-use Rattle.reader.specs.Heard.{Read}
 use Rattle.ladder.specs.Memory.{InMemory}
-use Rattle.solver.specs.declared.Outcome.{Outcome}
-use Rattle.solver.specs.declared.Outcome.the-variants.{Solved, NoTimetable, Refused}
+use Rattle.settle.specs.declared.Outcome.{Outcome}
+use Rattle.settle.specs.declared.Outcome.the-variants.{Solved, NoTimetable, Refused}
 
 -- the number and the place of section 3
 abbrev pub numberOf : Outcome → ℕ
@@ -34,12 +32,6 @@ named zero w = Solved w
 named (suc zero) steps = NoTimetable steps
 named (suc (suc k)) line = Refused (suc (suc k)) line
 
--- what the reader said of the text, and the levels that it left in an area that had room for all of them
-pub record ReadInto (text held : List ℕ) (answer : Answer) : Type 0 where
-  pub before : List ℕ
-  pub room : MOST-LEVELS-TOGETHER ≤ length before
-  pub read : Read text before held answer
-
 pub record Settling (h : Plan) (held : List ℕ) (times : List ℤ) (levels chain : List ℕ) : Type 0 where
   pub plan : M.Plan
   pub memory : InMemory plan h held
@@ -55,8 +47,3 @@ pub record Settled (p : M.Plan) (before after : Areas) (r : Outcome) : Type 0 wh
   pub placed : placeOf r ≡ place outcome
   pub variant : r ≡ named (numberOf r) (placeOf r)
   pub writes : after ≡ written outcome before
-
--- ---- what the entry point promises: the promise of `meaning`, and that the outcome is the one that its number names
-pub record Solves (text : List ℕ) (before after : Areas) (r : Outcome) : Type 0 where
-  pub promise : Promise text before after (numberOf r) (placeOf r)
-  pub variant : r ≡ named (numberOf r) (placeOf r)

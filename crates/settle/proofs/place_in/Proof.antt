@@ -1,7 +1,7 @@
--- `solver::place_in` meets its contract: case by case, as the definition goes.
+-- `settle::place_in` meets its contract: case by case, as the definition goes.
 use borrow.Author.Needs.{needs}
-use Rattle.solver.proofs.place_in.Statement.{statement}
-use Rattle.solver.proofs.place_in.Tie as tie
+use Rattle.settle.proofs.place_in.Statement.{statement}
+use Rattle.settle.proofs.place_in.Tie as tie
 
 enum-known-outcome : tie.Need-enum-known-outcome
 enum-known-outcome c = search needs

@@ -1,0 +1,2 @@
+-- The fields of a line.
+pub mod Fields

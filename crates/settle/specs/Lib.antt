@@ -1,0 +1,2 @@
+-- The outcome of a plan in memory.
+pub mod Settled
