@@ -11,7 +11,8 @@ ghost use Rattle.distances.specs.Rows.{Lowering, Copying, Inserting, low
 
 const STRIDE: usize = scope::MOST_EVENTS;
 
-const ENTRIES: usize = STRIDE * STRIDE;
+// The entries of a matrix.
+pub const ENTRIES: usize = STRIDE * STRIDE;
 
 // The entry in row i and column j.
 pub fn distance(d: &[i32], i: usize, j: usize) -> i32

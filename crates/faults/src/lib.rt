@@ -13,8 +13,8 @@ ghost use Rattle.faults.specs.Faults.{areLevels, hasRoom, headFault, rec
 use scope::MOST_END;
 use scope::MOST_HORIZON;
 use scope::MOST_LEVELS;
+use scope::MOST_LEVELS_TOGETHER;
 use scope::MOST_RECORDS;
-use scope::MOST_WISH_LEVELS;
 use scope::NOT_PEAKED;
 use scope::OUT_OF_RANGE;
 use scope::SAME_EVENT;
@@ -142,10 +142,10 @@ pub fn has_room(plan: SoFar, m: usize) -> bool
     if MOST_RECORDS <= plan.records {
         return false;
     }
-    if MOST_WISH_LEVELS < m {
+    if MOST_LEVELS < m {
         return false;
     }
-    plan.levels + m <= MOST_LEVELS
+    plan.levels + m <= MOST_LEVELS_TOGETHER
 }
 
 // The fault of n events and the horizon h.

@@ -74,7 +74,7 @@ module _ (p : Plan) where
   pub given-horizon-lower : (e : ℕ) → 1 ≤ e → e < p .events → Given p (horizonLower e)
   given-horizon-lower e h l = Memᴰ·append-right (recordBounds 0 (p .records)) (given-event (p .horizon) 1 (p .events - 1) e h (omega arith) .1)
 
--- ---- a code names one bound: those of the records lie below 512, those of the horizon from there on
+-- ---- a code names one bound: those of the records lie below HORIZON-CODES, those of the horizon from there on
 
 -- two bounds with one code are one
 abbrev pub Told : Bound → Bound → Type 0
@@ -84,7 +84,7 @@ Told b c = b .code ≡ c .code → b ≡ c
 abbrev pub Alone : Plan → Bound → Type 0
 Alone p b = (c : Bound) → Given p c → Told b c
 
--- so it is in a plan without fault: it has at most 256 records
+-- so it is in a plan without fault: it has at most MOST-RECORDS records
 pub one-code : (p : Plan) → WithoutFault p → (b : Bound) → Given p b → Alone p b
 one-code p w = each-bound p (Alone p) (λ k h. (of-upper k h, of-lower k h)) (λ e h l. (of-horizon-upper e, of-horizon-lower e))
   where

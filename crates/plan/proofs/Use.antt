@@ -1,7 +1,7 @@
 -- What a plan in memory gives to those who use it: each row of the struct is its record of the plan, and the record's levels stand in
 -- the area where the row says.
 use mathlib.Core.Path.{_≡_, refl, ap, _∙_}
-use mathlib.Core.Bool.{false}
+use mathlib.Core.Bool.{false, cond}
 use mathlib.Core.List.{List, [], _∷_}
 use Prim.Native.Nat.{ℕ, zero, suc, _+_, _≤_, _<_}
 use native.Mathlib.Omega.{arith}
@@ -16,7 +16,7 @@ use Rattle.meaning.proofs.Slices.{slice-at}
 use Rattle.meaning.specs.Faultless.{WithoutFault, Levelled}
 use Rattle.plan.specs.declared.Record.{Record}
 use Rattle.plan.specs.declared.Plan.{Plan}
-use Rattle.plan.specs.Held.{levelsIn, rowOf, rowsOf, flat, blank, recordOf, Holds}
+use Rattle.plan.specs.Held.{levelsIn, rowOf, rowsOf, flat, blank, Holds}
 use Rattle.plan.proofs.Growth.{together-cons}
 
 abbrev pub rowAt : Plan → ℕ → Record
@@ -68,7 +68,12 @@ pub record RowHeld (x : Record) (m : M.Record) (area : List ℕ) : Type 0 where
   pub levels : slice (x .first) (x .first + length (levelsIn m)) area ≡ levelsIn m
   pub inside : x .first + length (levelsIn m) ≤ length area
 
--- a record made again from its row
+-- a record made again from its row and the area of all levels
+abbrev pub recordOf : List ℕ → Record → M.Record
+recordOf levels r =
+    cond (eqb (r .count) 0) (M.rule (r .a) (r .b) (r .lo) (r .hi))
+    (M.wish (r .a) (r .b) (r .lo) (slice (r .first) (r .first + r .count) levels))
+
 again : (area : List ℕ) (n : ℕ) (m : M.Record) → Levelled m → slice n (n + length (levelsIn m)) area ≡ levelsIn m → recordOf area (rowOf n m) ≡ m
 again area n (M.rule a b lo hi) g e = refl
 again area n (M.wish a b lo ls) g e =
@@ -99,6 +104,6 @@ module _ {p : M.Plan} {h : Plan} (area : List ℕ) (o : Holds p h) (f : WithoutF
       same = ext-getD 0 _ ls long (λ i q. let j : i < length ls = omega (arith, long) in
           slice-at area n (n + length ls) i (omega arith) ∙ levels (n + i) (omega (arith, fits)) ∙ level-at (p .records) k i l j)
 
-  -- the row and its levels are record k
+  -- nothing of a record is lost in memory: it is made again from its row
   pub record-at : recordOf area (rowAt h k) ≡ recordAt p k
   record-at = rw (row-held .row) (again area (rowAt h k .first) (recordAt p k) (f .each k l .levelled) (row-held .levels))

@@ -1,11 +1,8 @@
 -- How a plan stands in memory: a struct, and the levels of all its wishes in one lent area.
 use mathlib.Core.Path.{_≡_}
-use mathlib.Core.Bool.{cond}
 use mathlib.Core.List.{List, [], _∷_, _++_}
 use Prim.Native.Nat.{ℕ, _+_, _≤_, _<_}
-use lib.Dec.{eqb}
 use lib.ListN.{length, getD}
-use lib.Seq.{slice}
 use lib.IntN.{pos}
 use Rattle.meaning.specs.Plan as M
 use Rattle.meaning.specs.Plan.{MOST-RECORDS, MOST-LEVELS-TOGETHER}
@@ -38,12 +35,6 @@ flat (r ∷ rs) = levelsIn r ++ flat rs
 -- what stands past the last record
 abbrev pub blank : Record
 blank = record { a = 0; b = 0; first = 0; count = 0; lo = pos 0; hi = pos 0 }
-
--- a record in memory, with the area of all levels, as a record of the plan
-abbrev pub recordOf : List ℕ → Record → M.Record
-recordOf levels r =
-    cond (eqb (r .count) 0) (M.rule (r .a) (r .b) (r .lo) (r .hi))
-    (M.wish (r .a) (r .b) (r .lo) (slice (r .first) (r .first + r .count) levels))
 
 -- ---- the plan
 

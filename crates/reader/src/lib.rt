@@ -12,7 +12,7 @@ use line::Effect;
 use plan::Plan;
 use scope::AREA_TOO_SHORT;
 use scope::MOST_BYTES;
-use scope::MOST_LEVELS;
+use scope::MOST_LEVELS_TOGETHER;
 use scope::TOO_MANY;
 use scope::WRONG_FORM;
 
@@ -127,10 +127,10 @@ fn refusal(k: u8, line: usize) -> Answer
 pub fn read(text: &[u8], levels: &mut [u8]) -> Answer
     ensures { λ r. ⌜ Read (now (text .entry)) (now (levels .entry)) (now (levels .exit)) r ⌝ }
 {
-    if levels.len() < MOST_LEVELS {
+    if levels.len() < MOST_LEVELS_TOGETHER {
         return refusal(AREA_TOO_SHORT, 0);
     }
-    clear(levels, MOST_LEVELS);
+    clear(levels, MOST_LEVELS_TOGETHER);
     if MOST_BYTES < text.len() {
         return refusal(TOO_MANY, 0);
     }
@@ -139,7 +139,7 @@ pub fn read(text: &[u8], levels: &mut [u8]) -> Answer
     match verdict {
         Verdict::Taken => answer,
         Verdict::Refused(k, line) => {
-            clear(levels, MOST_LEVELS);
+            clear(levels, MOST_LEVELS_TOGETHER);
             refusal(k, line)
         }
     }

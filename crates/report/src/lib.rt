@@ -33,7 +33,7 @@ pub fn answer(text: &[u8], out: &mut [u8]) -> usize
     if out.len() < AREA {
         return 0;
     }
-    let mut held = [0u8; scope::MOST_LEVELS];
+    let mut held = [0u8; scope::MOST_LEVELS_TOGETHER];
     let said = reader::read(text, &mut held);
     put_outcome(out, said, &held)
 }

@@ -9,9 +9,9 @@ pub const MOST_END: i32 = 100000;
 
 pub const MOST_RECORDS: usize = 256;
 
-pub const MOST_WISH_LEVELS: usize = 256;
+pub const MOST_LEVELS: usize = 256;
 
-pub const MOST_LEVELS: usize = 8192;
+pub const MOST_LEVELS_TOGETHER: usize = 8192;
 
 pub const MOST_BYTES: usize = 60000;
 

@@ -4,12 +4,10 @@ ghost use Rattle.meaning.specs.Plan as M;
 ghost use Rattle.meaning.specs.Outcome.{areas};
 ghost use Rattle.ladder.specs.Memory.{InMemory};
 ghost use Rattle.settle.specs.Settled.{numberOf, placeOf, Settling, Settled};
+use distances::ENTRIES;
 use plan::Plan;
-use scope::MOST_EVENTS;
 use scope::NO_TIMETABLE;
 use scope::SOLVED;
-
-const ENTRIES: usize = MOST_EVENTS * MOST_EVENTS;
 
 // What a text comes to: times and levels with the count of wishes, a chain with the count of its steps, or a refusal with its number and place.
 pub enum Outcome {

@@ -52,7 +52,7 @@ pub fn solve(text: &[u8], times: &mut [i64], levels: &mut [u8], chain: &mut [u16
     if !long_enough(times, levels, chain) {
         return Outcome::Refused(AREA_TOO_SHORT, 0);
     }
-    let mut held = [0u8; scope::MOST_LEVELS];
+    let mut held = [0u8; scope::MOST_LEVELS_TOGETHER];
     let answer = reader::read(text, &mut held);
     outcome_of(answer, &held, times, levels, chain)
 }
