@@ -9,13 +9,11 @@ use text::Word;
 
 const TAB: u8 = 9;
 
-// A line as far as it is read: its number, its word, the place where its word ends, the place where it ends, how many numbers were read, and the
-// first four of them.
+// A line as far as it is read: its number, its word, the place where its word ends, how many numbers were read, and the first four of them.
 pub struct Line {
     pub number: usize,
     pub word: Word,
     pub first: usize,
-    pub end: usize,
     pub count: usize,
     pub fields: [i32; 4],
 }
@@ -37,7 +35,6 @@ pub fn begin(text: &[u8], number: usize, at: usize, end: usize) -> Line
         number: number,
         word: word,
         first: first,
-        end: end,
         count: 0,
         fields: [0; 4],
     }

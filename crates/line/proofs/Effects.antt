@@ -2,31 +2,30 @@
 use mathlib.Core.Path.{_≡_, refl, sym, ap, _∙_}
 use mathlib.Core.Bool.{Bool, true, false, not}
 use mathlib.Core.List.{List, [], _∷_, map}
-use Prim.Native.Nat.{ℕ, _+_, _-_, _≤_, _<_}
+use Prim.Native.Nat.{ℕ, _+_, _-_, _≤_}
 use native.Mathlib.Omega.{arith}
 use borrow.Author.Tests.{eqb-true, leb-true}
 use lib.Dec.{eqb, leb}
-use lib.ListN.{length, getD, drop, length-map, length-drop}
+use lib.ListN.{length, drop, length-map, length-drop}
 use lib.Seq.{slice, sets}
 use lib.IntN.{ℤ, natAbs}
 use Rattle.meaning.specs.Plan as M
 use Rattle.meaning.specs.Plan.{MOST-EVENTS, MOST-LEVELS-TOGETHER}
 use Rattle.meaning.specs.Numbers.{WRONG-FORM, TOO-MANY}
-use Rattle.meaning.specs.Reading.{item, eventsLine, ruleLine, wishLine, eventsForm, ruleForm, wishForm, lineStep, fault, withRecord}
+use Rattle.meaning.specs.Reading.{item, eventsLine, ruleLine, wishLine, eventsForm, ruleForm, wishForm, lineStep, withRecord}
 use Rattle.meaning.proofs.Tests.{both, count-to}
-use Rattle.plan.proofs.Padded.{sets-above}
 use Rattle.fields.specs.declared.Line.{Line}
 use Rattle.faults.specs.declared.SoFar.{SoFar}
 use Rattle.faults.specs.declared.Span.{Span}
 use Rattle.line.specs.declared.Effect.{Effect}
-use Rattle.line.specs.declared.Effect.the-variants.{Fault, Head, Entry}
-use Rattle.fields.specs.Fields.{Numbered, Whole, restOf}
-use Rattle.line.specs.Lines.{Says, Counts, Room}
+use Rattle.line.specs.declared.Effect.the-variants.{Head, Entry}
+use Rattle.fields.specs.Fields.{Numbered}
+use Rattle.line.specs.Lines.{Says, Counts, Room, isWishWord, Stored}
 use Rattle.faults.specs.Faults.{NO-FAULT, unlessMet, firstFault, headFault, hasRoom, recordFault, entryFault}
 use Rattle.line.specs.Effects.{levelOf, spanOf, wishSpan, rowFrom}
-use Rattle.line.specs.Effects.{isHead, isRule, isWish, eventsEffect, ruleEffect, wishEffect, levelsOf, Stored, WishTaken}
+use Rattle.line.specs.Effects.{isHead, isRule, isWish, eventsEffect, ruleEffect, wishEffect, wishTaken}
 use Rattle.faults.proofs.Firsts.{met, only, head-ranges, ranged, low-end, levelled, limits}
-use Rattle.line.proofs.Wishes.{levels-as, levels-same, wish-row}
+use Rattle.line.proofs.Wishes.{stored-slice, levels-as, levels-same, wish-row}
 use Rattle.line.proofs.Judges as J
 
 -- ---- `events`
@@ -101,13 +100,13 @@ module _ (l : Line) (vs : List ℤ) (n : Numbered vs l) (s : SoFar) (room : Room
 
 -- ---- `wish`
 
-module _ (text : List ℕ) (l : Line) (w : Whole text l) (s : SoFar) (before after : List ℕ) where
-  -- the numbers of the line, and those that are levels
-  abbrev all : List ℤ
-  all = restOf (slice (l .first) (l .«end») text)
-
+module _ (vs : List ℤ) (l : Line) (n : Numbered vs l) (s : SoFar) (before after : List ℕ) (a : Stored (l .word) vs (s .levels) before after) where
+  -- the numbers that are levels, and how they are stored
   abbrev ls : List ℤ
-  ls = drop 3 all
+  ls = drop 3 vs
+
+  abbrev levels : List ℕ
+  levels = map levelOf ls
 
   abbrev m : ℕ
   m = l .count - 3
@@ -119,67 +118,63 @@ module _ (text : List ℕ) (l : Line) (w : Whole text l) (s : SoFar) (before aft
   wish-entry = M.wish (natAbs (item (l .fields) 0)) (natAbs (item (l .fields) 1)) (item (l .fields) 2) (map natAbs ls)
 
   many : length ls ≡ m
-  many = rw (w .numbered .count) (length-drop 3 all)
+  many = rw (n .count) (length-drop 3 vs)
 
-  levels-many : length (levelsOf text l) ≡ m
+  levels-many : length levels ≡ m
   levels-many = length-map ls levelOf ∙ many
 
   abbrev Wish : Effect → Type 0
-  Wish e = Says (l .number) (wishForm all) (s .events) (s .records) (s .levels) before after e
+  Wish e = Says (l .number) (wishForm vs) (s .events) (s .records) (s .levels) before after e
 
   wish-step : (p : M.Plan) → Counts p (s .events) (s .records) (s .levels)
-      → lineStep (l .number) p (wishForm all)
-      ≡ J.stepOf (firstFault (unlessMet (isWish l) WRONG-FORM ∷ entryFault s span (levelsOf text l) ∷ [])) (withRecord p wish-entry)
+      → lineStep (l .number) p (wishForm vs)
+      ≡ J.stepOf (firstFault (unlessMet (isWish l) WRONG-FORM ∷ entryFault s span levels ∷ [])) (withRecord p wish-entry)
   wish-step p k =
-      let n = w .numbered in
       let form = wishLine (item (l .fields) 0) (item (l .fields) 1) (item (l .fields) 2) ls in
       rw (← n .count, ← n .at 0 (omega arith), ← n .at 1 (omega arith), ← n .at 2 (omega arith))
-      (J.later-step (l .number) (leb 4 (l .count)) p form (entryFault s span (levelsOf text l)) (withRecord p wish-entry) refl
+      (J.later-step (l .number) (leb 4 (l .count)) p form (entryFault s span levels) (withRecord p wish-entry) refl
       (rw (← many) (J.wish-later p s k (l .fields) ls)))
 
-  -- a fault found before anything is stored
-  early : (k : ℕ) (e : Effect) → 0 < k → ((p : M.Plan) → Counts p (s .events) (s .records) (s .levels) → lineStep (l .number) p (wishForm all) ≡ fault k)
-      → (e ≡ Fault k) × (after ≡ before) → Wish e
-  early k e h step t =
-      J.says-of (l .number) (wishForm all) (s .events) (s .records) (s .levels) before after (Fault k) e (sym (t .0))
-      (record { some = h; step = step; above = λ i _. ap (λ (a : List ℕ). getD a i 0) (t .1) })
+  module _ (formed : isWish l ≡ true) (room : hasRoom s m ≡ true) (word : isWishWord (l .word) ≡ true) where
+    fits : s .levels + m ≤ MOST-LEVELS-TOGETHER
+    fits = limits s m room .together
 
-  module _ (formed : isWish l ≡ true) (room : hasRoom s m ≡ true) where
+    stored : after ≡ sets before (s .levels) levels
+    stored = a .levels word (omega (arith, fits, n .count))
+
     tested : (p : M.Plan) → Counts p (s .events) (s .records) (s .levels)
-        → lineStep (l .number) p (wishForm all) ≡ J.stepOf (recordFault (s .events) span (levelsOf text l)) (withRecord p wish-entry)
+        → lineStep (l .number) p (wishForm vs) ≡ J.stepOf (recordFault (s .events) span levels) (withRecord p wish-entry)
     tested p k =
-        let f = recordFault (s .events) span (levelsOf text l) in
+        let f = recordFault (s .events) span levels in
         wish-step p k ∙ rw (formed, levels-many, room, only f, only f)
 
-    entered : after ≡ sets before (s .levels) (levelsOf text l) → recordFault (s .events) span (levelsOf text l) ≡ NO-FAULT
-        → Wish (Entry (rowFrom span (s .levels) m))
-    entered a z =
-        let good = levels-same ls (sym (levels-as ls) ∙ levelled (s .events) span (levelsOf text l) z) in
-        let end = low-end (s .events) span (ranged (s .events) span (levelsOf text l) z) in
+    entered : recordFault (s .events) span levels ≡ NO-FAULT → Wish (Entry (rowFrom span (s .levels) m))
+    entered z =
+        let good = levels-same ls (sym (levels-as ls) ∙ levelled (s .events) span levels z) in
+        let end = low-end (s .events) span (ranged (s .events) span levels z) in
         let four = leb-true 4 (l .count) (both (not (eqb (l .number) 1)) (leb 4 (l .count)) formed .1) in
         record {
           entry = wish-entry;
           row = wish-row (l .fields) ls (s .levels) m end many (omega arith);
           few = limits s m room .few;
-          room = omega (arith, length-map ls natAbs, many, limits s m room .together);
+          room = omega (arith, length-map ls natAbs, many, fits);
           step = λ p k. tested p k ∙ ap (λ (f : ℕ). J.stepOf f (withRecord p wish-entry)) z;
-          stored = rw good at a;
+          stored = rw good at stored;
         }
 
-    stored-says : (e : Effect) → Stored text l s before after e → Wish e
+    -- the levels that are tested are those of the line
+    levels-says : MOST-LEVELS-TOGETHER ≤ length after → Wish (wishEffect l s (slice (s .levels) (s .levels + m) after))
     unfolding wishEffect
-    stored-says e t =
-        let ls-fit : s .levels + length (levelsOf text l) ≤ MOST-LEVELS-TOGETHER = omega (arith, levels-many, limits s m room .together) in
-        J.says-of (l .number) (wishForm all) (s .events) (s .records) (s .levels) before after (wishEffect l s (levelsOf text l)) e (sym (t .0))
-        (J.says-gives (l .number) (wishForm all) (s .events) (s .records) (s .levels) before after (recordFault (s .events) span (levelsOf text l))
-        (Entry (rowFrom span (s .levels) m)) (λ p. withRecord p wish-entry) tested
-        (rw (t .1) (sets-above MOST-LEVELS-TOGETHER (levelsOf text l) before before (s .levels) ls-fit (λ i _. refl)))
-        (entered (t .1)))
+    levels-says long =
+        let back = stored-slice before levels after (s .levels) m stored levels-many (omega (arith, fits, long, a .long)) in
+        rw back
+        (J.says-gives (l .number) (wishForm vs) (s .events) (s .records) (s .levels) before after (recordFault (s .events) span levels)
+        (Entry (rowFrom span (s .levels) m)) (λ p. withRecord p wish-entry) tested (a .above) entered)
 
-  pub wish-says : (e : Effect) → WishTaken text l s before after e → Wish e
-  wish-says e t = go (isWish l) (hasRoom s m) refl refl
+  pub wish-says : isWishWord (l .word) ≡ true → MOST-LEVELS-TOGETHER ≤ length after → Wish (wishTaken l s after)
+  wish-says word long = go (isWish l) (hasRoom s m) refl refl
     where
-      go : (x y : Bool) → isWish l ≡ x → hasRoom s m ≡ y → Wish e
-      go false y q r = early WRONG-FORM e (omega arith) (λ p k. wish-step p k ∙ rw q) (rw q at t)
-      go true false q r = early TOO-MANY e (omega arith) (λ p k. wish-step p k ∙ rw (q, levels-many, r)) (rw (q, r) at t)
-      go true true q r = stored-says q r e (rw (q, r) at t)
+      go : (x y : Bool) → isWish l ≡ x → hasRoom s m ≡ y → Wish (wishTaken l s after)
+      go false y q r = rw q (record { some = omega arith; step = λ p k. wish-step p k ∙ rw q; above = a .above })
+      go true false q r = rw (q, r) (record { some = omega arith; step = λ p k. wish-step p k ∙ rw (q, levels-many, r); above = a .above })
+      go true true q r = rw (q, r) (levels-says q r word long)

@@ -33,11 +33,6 @@ step-wrong line p = go (eqb line 1)
     go true = refl
     go false = refl
 
--- what the answer says, once its case is known
-pub says-of : (line : ℕ) (f : Form) (n count used : ℕ) (before after : List ℕ) (r x : Effect) → r ≡ x
-    → Says line f n count used before after r → Says line f n count used before after x
-says-of line f n count used before after r x e s = rw (← e) s
-
 -- ---- a fault as a step
 
 pub given-fault : (k : ℕ) (e : Effect) → (k ≡ NO-FAULT → ⊥) → Fault k ≡ gives k e

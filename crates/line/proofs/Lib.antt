@@ -3,4 +3,5 @@ mod Wishes
 mod Effects
 -- what other crates may cite
 pub mod Judges
+pub mod Stores
 pub mod One

@@ -1,11 +1,10 @@
 -- What a line gives by its form and the faults of its record.
 use mathlib.Core.Path.{_≡_}
 use mathlib.Core.Bool.{Bool, true, cond, _&&_, not}
-use mathlib.Core.List.{List, [], _∷_, map}
+use mathlib.Core.List.{List, [], _∷_}
 use Prim.Native.Nat.{ℕ, zero, suc, _+_, _-_, _≤_}
 use lib.Dec.{eqb, leb}
-use lib.ListN.{drop}
-use lib.Seq.{slice, sets}
+use lib.Seq.{slice}
 use lib.IntN.{ℤ, pos, natAbs, _+ℤ_}
 use Rattle.meaning.specs.Plan.{TOP-LEVEL}
 use Rattle.meaning.specs.Numbers.{WRONG-FORM, TOO-MANY}
@@ -17,7 +16,6 @@ use Rattle.faults.specs.Faults.{unlessMet, firstFault, headFault, hasRoom, reco
 use Rattle.fields.specs.declared.Line.{Line}
 use Rattle.line.specs.declared.Effect.{Effect}
 use Rattle.line.specs.declared.Effect.the-variants.{Fault, Head, Entry}
-use Rattle.fields.specs.Fields.{restOf}
 
 -- ---- levels as they are stored
 
@@ -84,16 +82,8 @@ pub record Roomy (l : Line) (s : SoFar) : Type 0 where
   pub numbers : 4 ≤ l .count
   pub room : hasRoom s (l .count - 3) ≡ true
 
--- the numbers of a line but the first three, as levels
-abbrev pub levelsOf : List ℕ → Line → List ℕ
-levelsOf text l = map levelOf (drop 3 (restOf (slice (l .first) (l .«end») text)))
-
--- a wish for which there is room: its levels are stored
-abbrev pub Stored : List ℕ → Line → SoFar → List ℕ → List ℕ → Effect → Type 0
-Stored text l s before after e = (e ≡ wishEffect l s (levelsOf text l)) × (after ≡ sets before (s .levels) (levelsOf text l))
-
-abbrev pub WishTaken : List ℕ → Line → SoFar → List ℕ → List ℕ → Effect → Type 0
-WishTaken text l s before after e =
-    cond (isWish l)
-    (cond (hasRoom s (l .count - 3)) (Stored text l s before after e) ((e ≡ Fault TOO-MANY) × (after ≡ before)))
-    ((e ≡ Fault WRONG-FORM) × (after ≡ before))
+-- a line `wish`: its form, the room for it, and then what its levels give, which stand in the area behind those of the others
+abbrev pub wishTaken : Line → SoFar → List ℕ → Effect
+wishTaken l s area =
+    let m = l .count - 3 in
+    cond (isWish l) (cond (hasRoom s m) (wishEffect l s (slice (s .levels) (s .levels + m) area)) (Fault TOO-MANY)) (Fault WRONG-FORM)

@@ -1,9 +1,11 @@
 -- What one line of a text gives: its numbers, and what it does to the plan read so far.
 use mathlib.Core.Path.{_≡_}
-use mathlib.Core.List.{List, []}
-use Prim.Native.Nat.{ℕ, _+_, _≤_, _<_}
-use lib.ListN.{length, getD, drop}
-use lib.Seq.{slice, sets}
+use mathlib.Core.Bool.{Bool, true, false, cond, _&&_}
+use mathlib.Core.List.{List, [], map}
+use Prim.Native.Nat.{ℕ, _+_, _-_, _≤_, _<_}
+use lib.Dec.{leb, ltb}
+use lib.ListN.{length, getD, set, drop}
+use lib.Seq.{sets}
 use lib.IntN.{ℤ}
 use Rattle.meaning.specs.Plan as M
 use Rattle.meaning.specs.Plan.{MOST-EVENTS, MOST-RECORDS, MOST-LEVELS-TOGETHER}
@@ -14,14 +16,10 @@ use Rattle.plan.specs.Held.{levelsIn, rowOf}
 use Rattle.plan.specs.declared.Record.{Record}
 use Rattle.faults.specs.declared.SoFar.{SoFar}
 use Rattle.fields.specs.declared.Line.{Line}
-use Rattle.fields.specs.Fields.{restOf, Fielded}
+use Rattle.fields.specs.Fields.{Numbered}
 use Rattle.line.specs.declared.Effect.{Effect}
 use Rattle.line.specs.declared.Effect.the-variants.{Fault, Head, Entry}
-
--- r is the place from which the numbers but the first three are left
-pub record AfterThree (text : List ℕ) (first end r : ℕ) : Type 0 where
-  pub fielded : Fielded text r end
-  pub rest : drop 3 (restOf (slice first end text)) ≡ restOf (slice r end text)
+use Rattle.line.specs.Effects.{levelOf}
 
 -- ---- the form of a line by its first field and its numbers
 
@@ -30,6 +28,37 @@ wordForm Events vs = eventsForm vs
 wordForm Rule vs = ruleForm vs
 wordForm Wish vs = wishForm vs
 wordForm Other vs = wrong
+
+-- ---- the levels of a wish, stored while its line is read
+
+abbrev pub isWishWord : Word → Bool
+isWishWord Events = false
+isWishWord Rule = false
+isWishWord Wish = true
+isWishWord Other = false
+
+-- the next number of the line is a level: the fourth and each later one of a wish is
+abbrev pub isLevelNext : Line → Bool
+isLevelNext l = isWishWord (l .word) && leb 3 (l .count)
+
+-- the area after one number more, v: a level is stored behind the `used` ones before, as far as there is room
+abbrev pub withLevel : Line → ℕ → ℤ → List ℕ → List ℕ
+withLevel l used v area =
+    let place = used + (l .count - 3) in
+    cond (isLevelNext l && ltb place MOST-LEVELS-TOGETHER) (set area place (levelOf v)) area
+
+-- a line with the word w and the numbers vs makes the area `after` of `before`: a wish for which there is room stores its levels, and a line that is no
+-- wish stores nothing
+pub record Stored (w : Word) (vs : List ℤ) (used : ℕ) (before after : List ℕ) : Type 0 where
+  pub long : length after ≡ length before
+  pub above : (i : ℕ) → MOST-LEVELS-TOGETHER ≤ i → getD after i 0 ≡ getD before i 0
+  pub other : isWishWord w ≡ false → after ≡ before
+  pub levels : isWishWord w ≡ true → used + (length vs - 3) ≤ MOST-LEVELS-TOGETHER → after ≡ sets before used (map levelOf (drop 3 vs))
+
+-- all numbers of the line are read: they are vs, and the area was `before` when it began
+pub record Whole (vs : List ℤ) (l : Line) (s : SoFar) (before after : List ℕ) : Type 0 where
+  pub numbered : Numbered vs l
+  pub stored : Stored (l .word) vs (s .levels) before after
 
 -- ---- what a line does
 
@@ -71,9 +100,10 @@ pub record Room (s : SoFar) : Type 0 where
   pub events : s .events ≤ MOST-EVENTS
   pub levels : s .levels ≤ MOST-LEVELS-TOGETHER
 
--- the form of the line
-abbrev pub formIn : List ℕ → Line → Form
-formIn text l = wordForm (l .word) (restOf (slice (l .first) (l .«end») text))
+-- what a line gives that has the numbers vs
+abbrev pub Gives : List ℤ → Line → SoFar → List ℕ → List ℕ → Effect → Type 0
+Gives vs l s before after r = Says (l .number) (wordForm (l .word) vs) (s .events) (s .records) (s .levels) before after r
 
-abbrev pub Gives : List ℕ → Line → SoFar → List ℕ → List ℕ → Effect → Type 0
-Gives text l s before after r = Says (l .number) (formIn text l) (s .events) (s .records) (s .levels) before after r
+-- whatever its numbers are, and the area when it began
+abbrev pub Judged : Line → SoFar → List ℕ → Effect → Type 0
+Judged l s area r = (vs : List ℤ) (before : List ℕ) → Whole vs l s before area → Gives vs l s before area r

@@ -1,28 +1,25 @@
 // What one line of a text gives: the tests of section 3 in their order, and the record that it adds to the plan.
 ghost use mathlib.Core.Path.{_≡_};
-ghost use mathlib.Core.List.{map};
-ghost use Prim.Native.Nat.{_+_, _-_, _≤_, _<_};
+ghost use mathlib.Core.List.{List};
+ghost use Prim.Native.Nat.{ℕ, _+_, _-_, _≤_, _<_};
 ghost use lib.ListN.{length};
-ghost use lib.Seq.{slice, sets};
-ghost use lib.IntN.{natAbs};
-ghost use Rattle.meaning.specs.Plan.{MOST-LEVELS, MOST-LEVELS-TOGETHER};
-ghost use Rattle.fields.specs.Fields.{restOf, Fielded, Whole};
-ghost use Rattle.line.specs.Lines.{AfterThree, Room, Gives};
+ghost use lib.Seq.{slice};
+ghost use lib.IntN.{ℤ, natAbs};
+ghost use Rattle.meaning.specs.Plan.{MOST-LEVELS, MOST-LEVELS-TOGETHER, MOST-BYTES};
 ghost use Rattle.faults.specs.Faults.{NO-FAULT, Fitting, headFault};
 ghost use Rattle.line.specs.declared.Effect.the-variants.{Head};
 ghost use Rattle.line.specs.Effects.{levelOf, lastFrom, spanOf, wishSpan, rowFrom, isHead, isRule, isWish, Roomy};
-ghost use Rattle.line.specs.Effects.{eventsEffect, ruleEffect, wishEffect, Stored, WishTaken};
+ghost use Rattle.line.specs.Effects.{eventsEffect, ruleEffect, wishEffect, wishTaken};
+ghost use Rattle.line.specs.Lines.{Room, isLevelNext, withLevel, Whole, Judged};
 use faults::NO_FAULT;
 use faults::SoFar;
 use faults::Span;
-use fields::Field;
 use fields::Line;
 use plan::Record;
+use scope::MOST_LEVELS_TOGETHER;
 use scope::TOO_MANY;
 use scope::WRONG_FORM;
 use text::Word;
-
-const TAB: u8 = 9;
 
 // A field is a signed number, so this limit is met as such.
 const TOP_LEVEL: i32 = scope::TOP_LEVEL as i32;
@@ -50,35 +47,31 @@ fn level_of(v: i32) -> u8
     }
 }
 
-// The place after the first three numbers.
-fn after_three(text: &[u8], first: usize, end: usize) -> usize
-    requires { ⌜ Fielded (now text) first end × (3 ≤ length (restOf (slice first end (now text)))) ⌝ }
-    ensures { λ r. ⌜ AfterThree (now (text .entry)) first end r ⌝ }
+// The next number of the line is a level: the fourth and each later one of a wish is.
+fn is_level_next(line: Line) -> bool
+    ensures { λ r. ⌜ r ≡ isLevelNext line ⌝ }
 {
-    let p = text::find(text, first + 1, end, TAB);
-    let q = text::find(text, p + 1, end, TAB);
-    text::find(text, q + 1, end, TAB)
+    let word = line.word;
+    match word {
+        Word::Events => false,
+        Word::Rule => false,
+        Word::Wish => 3 <= line.count,
+        Word::Other => false,
+    }
 }
 
-// The numbers of a line from place `from` on, stored as levels from place `used` on.
-fn read_levels(text: &[u8], from: usize, end: usize, levels: &mut [u8], used: usize)
-    requires { ⌜ Fielded (now text) from end × (used + length (restOf (slice from end (now text))) ≤ MOST-LEVELS-TOGETHER)
-        × (MOST-LEVELS-TOGETHER ≤ length (now levels)) ⌝ }
-    ensures { λ r. ⌜ now (levels .exit) ≡ sets (now (levels .entry)) used (map levelOf (restOf (slice from end (now (text .entry))))) ⌝ }
+// The next number of the line is v: a level is stored behind those of the wishes before. Where there is no room for it nothing is stored, since `take`
+// finds that fault.
+pub fn store_level(line: Line, used: usize, v: i32, levels: &mut [u8])
+    requires { ⌜ (line .count < MOST-BYTES) × (used ≤ MOST-LEVELS-TOGETHER) × (MOST-LEVELS-TOGETHER ≤ length (now levels)) ⌝ }
+    ensures { λ _. ⌜ now (levels .exit) ≡ withLevel line used v (now (levels .entry)) ⌝ }
 {
-    let mut p = from;
-    let mut k = used;
-    while p < end {
-        match fields::field_after(text, p, end) {
-            Field::Number(v, next) => {
-                levels[k] = level_of(v);
-                p = next;
-            }
-            Field::Wrong => {
-                return;
-            }
-        }
-        k += 1;
+    if !is_level_next(line) {
+        return;
+    }
+    let place = used + (line.count - 3);
+    if place < MOST_LEVELS_TOGETHER {
+        levels[place] = level_of(v);
     }
 }
 
@@ -225,20 +218,10 @@ fn wish_effect(line: Line, plan: SoFar, levels: &[u8]) -> Effect
     Effect::Entry(row_of(span, at, m))
 }
 
-// A wish for which there is room: its levels are stored whatever they are, and tested where they stand.
-fn store_wish(text: &[u8], line: Line, plan: SoFar, levels: &mut [u8]) -> Effect
-    requires { ⌜ Whole (now text) line × Room plan × Roomy line plan × (MOST-LEVELS-TOGETHER ≤ length (now levels)) ⌝ }
-    ensures { λ r. ⌜ Stored (now (text .entry)) line plan (now (levels .entry)) (now (levels .exit)) r ⌝ }
-{
-    let from = after_three(text, line.first, line.end);
-    read_levels(text, from, line.end, levels, plan.levels);
-    wish_effect(line, plan, levels)
-}
-
 // A line `wish`.
-fn take_wish(text: &[u8], line: Line, plan: SoFar, levels: &mut [u8]) -> Effect
-    requires { ⌜ Whole (now text) line × Room plan × (MOST-LEVELS-TOGETHER ≤ length (now levels)) ⌝ }
-    ensures { λ r. ⌜ WishTaken (now (text .entry)) line plan (now (levels .entry)) (now (levels .exit)) r ⌝ }
+fn take_wish(line: Line, plan: SoFar, levels: &[u8]) -> Effect
+    requires { ⌜ (length (line .fields) ≡ 4) × Room plan × (MOST-LEVELS-TOGETHER ≤ length (now levels)) ⌝ }
+    ensures { λ r. ⌜ r ≡ wishTaken line plan (now (levels .entry)) ⌝ }
 {
     if !is_wish(line) {
         return Effect::Fault(WRONG_FORM);
@@ -246,19 +229,19 @@ fn take_wish(text: &[u8], line: Line, plan: SoFar, levels: &mut [u8]) -> Effect
     if !faults::has_room(plan, line.count - 3) {
         return Effect::Fault(TOO_MANY);
     }
-    store_wish(text, line, plan, levels)
+    wish_effect(line, plan, levels)
 }
 
-// What a line gives whose numbers are all read: the tests of section 3 in their order. The levels of a wish are stored behind those of the others.
-pub fn take(text: &[u8], line: Line, plan: SoFar, levels: &mut [u8]) -> Effect
-    requires { ⌜ Whole (now text) line × Room plan × (MOST-LEVELS-TOGETHER ≤ length (now levels)) ⌝ }
-    ensures { λ r. ⌜ Gives (now (text .entry)) line plan (now (levels .entry)) (now (levels .exit)) r ⌝ }
+// What a line gives whose numbers are all read, and the levels of a wish stored: the tests of section 3 in their order.
+pub fn take(line: Line, plan: SoFar, levels: &[u8]) -> Effect
+    requires { ⌜ ((vs : List ℤ) × (before : List ℕ) × Whole vs line plan before (now levels)) × Room plan × (MOST-LEVELS-TOGETHER ≤ length (now levels)) ⌝ }
+    ensures { λ r. ⌜ Judged line plan (now (levels .entry)) r ⌝ }
 {
     let word = line.word;
     match word {
         Word::Events => take_events(line),
         Word::Rule => take_rule(line, plan),
-        Word::Wish => take_wish(text, line, plan, levels),
+        Word::Wish => take_wish(line, plan, levels),
         Word::Other => Effect::Fault(WRONG_FORM),
     }
 }

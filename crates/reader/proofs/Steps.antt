@@ -1,5 +1,6 @@
 -- The walk over the lines of a text, a line at a time: what holds before a line (`Walking`) holds after it, or the walk is left with
--- the text's reading (`Left`). In a line, a field at a time: the numbers seen and those that are left are all its numbers (`Scanning`).
+-- the text's reading (`Left`). In a line, a field at a time: the numbers seen and those that are left are all its numbers, and its levels are stored
+-- (`Scanning`).
 use mathlib.Core.Path.{_≡_, refl, sym, ap, _∙_}
 use mathlib.Core.Bool.{Bool, true, false}
 use mathlib.Core.Option.{Option, some}
@@ -27,9 +28,10 @@ use Rattle.fields.specs.declared.Line.{Line}
 use Rattle.faults.specs.declared.SoFar.{SoFar}
 use Rattle.fields.specs.declared.Field.the-variants.{Number, Wrong}
 use Rattle.line.specs.declared.Effect.the-variants.{Fault, Head, Entry}
-use Rattle.fields.specs.Fields.{begun, withNumber, fieldEnd, FieldRead, Numbered, Whole}
-use Rattle.line.specs.Lines.{Room, Counts, Gives, formIn}
+use Rattle.fields.specs.Fields.{begun, withNumber, fieldEnd, FieldRead, Numbered}
+use Rattle.line.specs.Lines.{Room, Counts, Stored, withLevel, Whole, Gives, wordForm}
 use Rattle.line.proofs.Judges.{step-wrong}
+use Rattle.line.proofs.Stores.{stored-none, stored-more}
 use Rattle.fields.proofs.Walks as W
 use Rattle.reader.proofs.Pieces as P
 use Rattle.reader.specs.declared.Verdict.the-variants.{Taken, Refused}
@@ -165,20 +167,22 @@ onward text number k = afterStep number (λ p. readPieces (split LINE-FEED (slic
 
 -- a line with other numbers
 abbrev readOn : Line → ℕ → List ℤ → Line
-readOn l n fs = record { number = l .number; word = l .word; first = l .first; «end» = l .«end»; count = n; fields = fs }
+readOn l n fs = record { number = l .number; word = l .word; first = l .first; count = n; fields = fs }
 
 -- the plan in memory after the first line
 abbrev pub withHead : Plan → ℕ → ℕ → Plan
 withHead h m z = record { events = m; horizon = z; count = h .count; used = h .used; records = h .records }
 
--- before the field at p of a line that began as `start`: the numbers seen, with those that are left, are all
-pub record Scanning (text : List ℕ) (start line : Line) (p : ℕ) : Type 0 where
+-- before the field at p of a line up to k that began as `start`, with this area: the numbers seen, with those that are left, are all, and levels among
+-- those seen are stored
+pub record Scanning (text : List ℕ) (start : Line) (k used : ℕ) (area : List ℕ) (line : Line) (levels : List ℕ) (p : ℕ) : Type 0 where
   pub kept : line ≡ readOn start (line .count) (line .fields)
-  pub inside : p ≤ start .«end»
+  pub inside : p ≤ k
   pub few : line .count ≤ p
   pub seen : List ℤ
   pub numbered : Numbered seen line
-  pub rest : numbers (after TAB (slice (start .first) (start .«end») text)) ≡ P.onto seen (numbers (after TAB (slice p (start .«end») text)))
+  pub stored : Stored (line .word) seen used area levels
+  pub rest : numbers (after TAB (slice (start .first) k text)) ≡ P.onto seen (numbers (after TAB (slice p k text)))
 
 numbered-none : (text : List ℕ) (number at k : ℕ) → Numbered [] (begun text number at k)
 numbered-none text number at k = record { count = refl; size = refl; at = λ i _. all-same (pos 0) 4 i }
@@ -214,13 +218,14 @@ module _ {text before levels : List ℕ} {h : Plan} {number at k : ℕ} (o : Cur
   word-in = omega (arith, cut-in TAB text at k (line-in .0) (line-in .1))
 
   -- none of its fields is read
-  pub scan-begin : Scanning text (begun text number at k) (begun text number at k) (wordEnd text at k)
+  pub scan-begin : Scanning text (begun text number at k) k (h .used) levels (begun text number at k) levels (wordEnd text at k)
   scan-begin = record {
     kept = refl;
     inside = word-in;
     few = omega arith;
     seen = [];
     numbered = numbered-none text number at k;
+    stored = stored-none (begun text number at k .word) (h .used) levels;
     rest = P.scan-start _;
   }
 
@@ -229,7 +234,7 @@ module _ {text before levels : List ℕ} {h : Plan} {number at k : ℕ} (o : Cur
       sym (w .rest) ∙ P.pieces-step text at k number (w .p) (o .on) (o .ends) (o .inner)
       ∙ rw (P.form-cut text at k (wordEnd text at k) (line-in .0) (line-in .1) refl)
 
-  module _ {line : Line} {p : ℕ} (s : Scanning text (begun text number at k) line p) where
+  module _ {line : Line} {levels′ : List ℕ} {p : ℕ} (s : Scanning text (begun text number at k) k (h .used) levels line levels′ p) where
     -- ---- a field
     module _ (more : p < k) where
       pub room-more : length text ≤ MOST-BYTES → (line .count < MOST-BYTES) × (length (line .fields) ≡ 4)
@@ -238,7 +243,8 @@ module _ {text before levels : List ℕ} {h : Plan} {number at k : ℕ} (o : Cur
       pub field-in : {v : ℤ} {next : ℕ} → FieldRead text p k (Number v next) → (p < next) × (next ≤ k)
       field-in {v} {next} f = let g = W.field-in text p k next more (line-in .1) (f .0) in (omega (arith, g .0), g .1)
 
-      pub scan-more : {v : ℤ} {next : ℕ} → FieldRead text p k (Number v next) → Scanning text (begun text number at k) (withNumber line v) next
+      pub scan-more : {v : ℤ} {next : ℕ} → FieldRead text p k (Number v next)
+          → Scanning text (begun text number at k) k (h .used) levels (withNumber line v) (withLevel line (h .used) v levels′) next
       scan-more {v} {next} f =
           let g = field-in f in
           record {
@@ -247,41 +253,37 @@ module _ {text before levels : List ℕ} {h : Plan} {number at k : ℕ} (o : Cur
             few = omega (arith, s .few, g .0);
             seen = s .seen ++ (v ∷ []);
             numbered = numbered-more (s .numbered) v;
+            stored = stored-more (s .numbered) (s .stored) v;
             rest = P.scan-good text p k next more (line-in .1) (f .0) (s .seen) _ (s .rest) v (rw (f .0) (f .1));
           }
 
-      pub unread : FieldRead text p k Wrong → Left text before levels h WRONG-FORM number
+      pub unread : FieldRead text p k Wrong → Left text before levels′ h WRONG-FORM number
       unread f =
           let bad = P.scan-bad text p k (fieldEnd text p k) more (line-in .1) refl (s .seen) _ (s .rest) f in
-          wrong-form w (stepped ∙ rw (bad, step-wrong number (w .p)))
+          broken w (omega arith) (stepped ∙ rw (bad, step-wrong number (w .p))) (s .stored .long) (s .stored .above)
 
     -- ---- all fields are read
     module _ (all : k ≤ p) where
       all-seen : numbersIn text at k ≡ some (s .seen)
       all-seen = P.scan-end text p k (omega (arith, s .inside)) (s .seen) _ (s .rest)
 
-      pub whole : Whole text line
-      whole = rw (s .kept) (record {
-        fielded = record { inside = word-in; within = line-in .1; all = rw all-seen };
-        numbered = rw all-seen (rw (s .kept) at (s .numbered));
-      })
+      pub whole : Whole (s .seen) line (soFar h) levels levels′
+      whole = record { numbered = s .numbered; stored = s .stored }
 
       same-number : line .number ≡ number
       same-number = ap (λ (l : Line). l .number) (s .kept)
 
-      form : formIn text line ≡ formAt text at k
+      form : wordForm (line .word) (s .seen) ≡ formAt text at k
       form = rw (s .kept, all-seen) (sym (P.word-form (slice at (wordEnd text at k) text) (s .seen)))
 
-      judged : lines text ≡ onward text number k (lineStep (line .number) (w .p) (formIn text line))
+      judged : lines text ≡ onward text number k (lineStep (line .number) (w .p) (wordForm (line .word) (s .seen)))
       judged = stepped ∙ rw (same-number, form)
 
-      pub faulted : {levels′ : List ℕ} {j : ℕ} → Gives text line (soFar h) levels levels′ (Fault j) → length levels′ ≡ length levels
-          → Left text before levels′ h j number
-      faulted f long = broken w (f .some) (judged ∙ rw (f .step (w .p) (counts w))) long (f .above)
+      pub faulted : {j : ℕ} → Gives (s .seen) line (soFar h) levels levels′ (Fault j) → Left text before levels′ h j number
+      faulted f = broken w (f .some) (judged ∙ rw (f .step (w .p) (counts w))) (s .stored .long) (f .above)
 
-      pub headed : {levels′ : List ℕ} {m z : ℕ} → Gives text line (soFar h) levels levels′ (Head m z)
-          → Walking text before levels′ (withHead h m z) (number + 1) (k + 1)
-      headed {levels′} {m} {z} f =
+      pub headed : {m z : ℕ} → Gives (s .seen) line (soFar h) levels levels′ (Head m z) → Walking text before levels′ (withHead h m z) (number + 1) (k + 1)
+      headed {m} {z} f =
           let e : w .p ≡ empty = w .start (sym same-number ∙ f .first) in
           let g : Holds empty h = rw e at (w .holds) in
           let l : LevelsHeld empty before levels = rw e at (w .held) in
@@ -297,9 +299,9 @@ module _ {text before levels : List ℕ} {h : Plan} {number at k : ℕ} (o : Cur
             rest = sym (judged ∙ rw (f .step (w .p)));
           }
 
-      pub entered : {levels′ : List ℕ} {r : Record} {n : ℕ} → MOST-LEVELS-TOGETHER ≤ length before → n ≡ r .count
-          → Gives text line (soFar h) levels levels′ (Entry r) → Walking text before levels′ (withRow h r n) (number + 1) (k + 1)
-      entered {levels′} {r} {n} long e f =
+      pub entered : {r : Record} {n : ℕ} → MOST-LEVELS-TOGETHER ≤ length before → n ≡ r .count
+          → Gives (s .seen) line (soFar h) levels levels′ (Entry r) → Walking text before levels′ (withRow h r n) (number + 1) (k + 1)
+      entered {r} {n} long e f =
           let c : n ≡ length (levelsIn (f .entry)) = e ∙ ap (λ (x : Record). x .count) (f .row) in
           record {
             one = omega arith;

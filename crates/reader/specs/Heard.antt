@@ -10,6 +10,7 @@ use Rattle.meaning.specs.Plan.{MOST-LEVELS-TOGETHER}
 use Rattle.meaning.specs.Reading as R
 use Rattle.meaning.specs.Reading.{Reading, LINE-FEED, split, readPieces, plan, empty}
 use Rattle.meaning.specs.Numbers.{WRONG-FORM, AREA-TOO-SHORT}
+use Rattle.faults.specs.Faults.{NO-FAULT}
 use Rattle.plan.specs.Held.{Holds, LevelsHeld}
 use Rattle.reader.specs.declared.Answer.{Answer}
 use Rattle.reader.specs.declared.Verdict.{Verdict}
@@ -56,9 +57,9 @@ pub record Cleared (n : ℕ) (before after : List ℕ) : Type 0 where
 abbrev pub Refusal : ℕ → ℕ → Answer → Type 0
 Refusal k line r = (r .verdict ≡ Refused k line) × Holds empty (r .plan)
 
--- the verdict at the end of the walk: `fault` is 0 where there was none; a text of no line has its fault in line 1
+-- the verdict at the end of the walk; a text of no line has its fault in line 1
 abbrev pub verdictAt : ℕ → ℕ → Verdict
-verdictAt fault line = cond (eqb fault 0) (cond (eqb line 1) (Refused WRONG-FORM 1) Taken) (Refused fault line)
+verdictAt fault line = cond (eqb fault NO-FAULT) (cond (eqb line 1) (Refused WRONG-FORM 1) Taken) (Refused fault line)
 
 -- what the lines of a text give: the verdict, and where it is a plan its image in memory; after a fault only the area's rest is known
 pub record Walked (text before after : List ℕ) (r : Answer) : Type 0 where

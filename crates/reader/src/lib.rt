@@ -6,6 +6,7 @@ ghost use Rattle.meaning.specs.Plan.{MOST-LEVELS-TOGETHER, MOST-BYTES};
 ghost use Rattle.meaning.specs.Reading.{empty};
 ghost use Rattle.plan.specs.Held.{LevelsHeld};
 ghost use Rattle.reader.specs.Heard.{Cleared, Refusal, Read, Walked, verdictAt};
+use faults::NO_FAULT;
 use faults::SoFar;
 use fields::Field;
 use line::Effect;
@@ -40,11 +41,11 @@ fn clear(levels: &mut [u8], count: usize)
     }
 }
 
-// The verdict at the end of the walk: `fault` is 0 where there was none; a text of no line has its fault in line 1.
+// The verdict at the end of the walk; a text of no line has its fault in line 1.
 fn verdict_of(fault: u8, line: usize) -> Verdict
     ensures { λ r. ⌜ r ≡ verdictAt fault line ⌝ }
 {
-    if fault != 0 {
+    if fault != NO_FAULT {
         return Verdict::Refused(fault, line);
     }
     if line == 1 {
@@ -60,7 +61,7 @@ fn read_lines(text: &[u8], levels: &mut [u8]) -> Answer
 {
     let mut plan = plan::empty_plan();
     let len = text.len();
-    let mut fault: u8 = 0;
+    let mut fault = NO_FAULT;
     let mut number: usize = 1;
     let mut at: usize = 0;
     'lines: while at < len {
@@ -74,6 +75,7 @@ fn read_lines(text: &[u8], levels: &mut [u8]) -> Answer
         while tab < end {
             match fields::field_after(text, tab, end) {
                 Field::Number(v, next) => {
+                    line::store_level(line, plan.used, v, levels);
                     line = fields::with_number(line, v);
                     tab = next;
                 }
@@ -88,7 +90,7 @@ fn read_lines(text: &[u8], levels: &mut [u8]) -> Answer
             records: plan.count,
             levels: plan.used,
         };
-        match line::take(text, line, so_far, levels) {
+        match line::take(line, so_far, levels) {
             Effect::Fault(k) => {
                 fault = k;
                 break 'lines;

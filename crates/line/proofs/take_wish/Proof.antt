@@ -1,11 +1,11 @@
--- `line::take_wish` meets its contract: the tests before its levels are read, and then what its levels give.
-use mathlib.Core.Path.{_≡_, refl, sym, _∙_}
+-- `line::take_wish` meets its contract: the tests of its form and of the room for it, and then what its levels give.
+use mathlib.Core.Path.{_≡_, sym, _∙_}
 use mathlib.Core.Bool.{true, not}
 use Prim.Native.Nat.{_-_, _≤_}
 use native.Mathlib.Omega.{arith}
+use borrow.Author.Needs.{needs}
 use borrow.Author.Tests.{not-true, not-false, leb-true}
 use lib.Dec.{eqb, leb}
-use borrow.Author.Needs.{needs}
 use Rattle.meaning.proofs.Tests.{both}
 use Rattle.faults.specs.Faults.{hasRoom}
 use Rattle.line.specs.Effects.{isWish}
@@ -13,7 +13,7 @@ use Rattle.line.proofs.take_wish.Statement.{statement}
 use Rattle.line.proofs.take_wish.Tie as tie
 
 abbrev start : tie.Else1 → tie.Start
-start c = c .before .before .before .before
+start c = c .before .before .before
 
 formed : (c : tie.Else1) → isWish (start c .args .line) ≡ true
 formed c = sym (c .before .is-wish .ensures) ∙ not-false _ (c .if1 .left)
@@ -34,7 +34,7 @@ is-wish-requires : tie.Need-is-wish-requires
 is-wish-requires c κs = search needs
 
 returns : tie.Need-returns
-returns c = rw (sym (c .before .is-wish .ensures) ∙ not-true _ (c .if1 .taken)) (refl, refl)
+returns c = rw (sym (c .before .is-wish .ensures) ∙ not-true _ (c .if1 .taken))
 
 sub-has-room : tie.Need-sub-has-room
 sub-has-room c = omega (arith, many (c .before))
@@ -43,30 +43,15 @@ has-room-requires : tie.Need-has-room-requires
 has-room-requires c κs = search needs
 
 returns-2 : tie.Need-returns-2
-returns-2 c = rw (formed (c .before .before .before), sym (c .before .has-room .ensures) ∙ not-true _ (c .if2 .taken)) (refl, refl)
+returns-2 c = rw (formed (c .before .before .before), sym (c .before .has-room .ensures) ∙ not-true _ (c .if2 .taken))
 
-store-wish-requires : tie.Need-store-wish-requires
-store-wish-requires c κs =
-    let s = start (one (c .before)) in
-    (s .pre .0, s .pre .1, record { numbers = many (one (c .before)); room = roomy (c .before) }, s .pre .2)
-
-same-length : tie.Need-same-length
-same-length c = search needs
+wish-effect-requires : tie.Need-wish-effect-requires
+wish-effect-requires c κs =
+    let s = start (one c) in
+    (s .pre .0, s .pre .1, record { numbers = many (one c); room = roomy c }, s .pre .2)
 
 returns-3 : tie.Need-returns-3
-returns-3 c =
-    let two = c .before .before .before .before in
-    rw (formed (one two), roomy two) (c .before .before .store-wish .ensures)
+returns-3 c = rw (formed (one (c .before)), roomy (c .before)) (c .wish-effect .ensures)
 
 pub take-wish-spec : {M : Type 1} → statement M
-take-wish-spec =
-    tie.close
-    (tie.spec
-    is-wish-requires
-    returns
-    sub-has-room
-    has-room-requires
-    returns-2
-    store-wish-requires
-    same-length
-    returns-3)
+take-wish-spec = tie.close (tie.spec is-wish-requires returns sub-has-room has-room-requires returns-2 wish-effect-requires returns-3)

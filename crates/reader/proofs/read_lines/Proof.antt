@@ -12,6 +12,7 @@ use mir.Syntax.{w32}
 use mir.Val.{SFits}
 use Rattle.meaning.specs.Plan.{MOST-BYTES, MOST-LEVELS-TOGETHER}
 use Rattle.meaning.specs.Numbers.{WRONG-FORM}
+use Rattle.faults.specs.Faults.{NO-FAULT}
 use Rattle.plan.specs.declared.Plan.{Plan}
 use Rattle.plan.proofs.Growth.{withRow}
 use Rattle.fields.specs.Fields.{begun, FieldRead}
@@ -25,13 +26,14 @@ use Rattle.reader.proofs.read_lines.Statement.{statement}
 use Rattle.reader.proofs.read_lines.Tie as tie
 
 abbrev Inv-loop : tie.InvT-loop
-Inv-loop text levels plan len fault₀ number at end line₀ tab₀ fault line tab = (fault ≡ 0) × Scanning text (begun text number at end) line tab
+Inv-loop text levels₀ plan len fault₀ number at end line₀ tab₀ levels fault line tab =
+    (fault ≡ NO-FAULT) × Scanning text (begun text number at end) end (plan .used) levels₀ line levels tab
 
 abbrev μ-loop : tie.MeasureT-loop
-μ-loop text levels plan len fault₀ number at end line₀ tab₀ fault line tab = end - tab
+μ-loop text levels₀ plan len fault₀ number at end line₀ tab₀ levels fault line tab = end - tab
 
 abbrev Inv-lines : tie.InvT-lines
-Inv-lines text levels₀ plan₀ len fault₀ number₀ at₀ levels plan fault number at = (fault ≡ 0) × Walking text levels₀ levels plan number at
+Inv-lines text levels₀ plan₀ len fault₀ number₀ at₀ levels plan fault number at = (fault ≡ NO-FAULT) × Walking text levels₀ levels plan number at
 
 abbrev μ-lines : tie.MeasureT-lines
 μ-lines text levels₀ plan₀ len fault₀ number₀ at₀ levels plan fault number at = length text - at
@@ -91,8 +93,24 @@ field : (c : tie.After-v Inv-loop μ-loop Inv-lines μ-lines) → let l = loop-o
     FieldRead (text (line-of (found l))) (l .loop .tab) (end-of (found l)) (Number (c .v .given .0 .0) (c .v .given .0 .1 .0))
 field c = rw (c .v .given .1) at (c .before .before .field-after .ensures)
 
-fits : (c : tie.After-known-told Inv-loop μ-loop Inv-lines μ-lines) → SFits w32 (c .before .v .given .0 .0)
+abbrev Told : Type 0
+Told = tie.After-known-told Inv-loop μ-loop Inv-lines μ-lines
+
+fits : (c : Told) → SFits w32 (c .before .v .given .0 .0)
 fits c = record { sfits = c .known-told .given .0 .1 }
+
+-- and its level is stored
+abbrev stored-of : tie.After-slice-known2 Inv-loop μ-loop Inv-lines μ-lines → tie.After-store-level Inv-loop μ-loop Inv-lines μ-lines
+stored-of c = c .before .before
+
+abbrev told-of : tie.After-slice-known2 Inv-loop μ-loop Inv-lines μ-lines → Told
+told-of c = stored-of c .before .before
+
+abbrev number-of : tie.After-slice-known2 Inv-loop μ-loop Inv-lines μ-lines → tie.After-v Inv-loop μ-loop Inv-lines μ-lines
+number-of c = told-of c .before
+
+room-more : (c : tie.After-v Inv-loop μ-loop Inv-lines μ-lines) → let line = loop-of c .loop .line in (line .count < MOST-BYTES) × (length (line .fields) ≡ 4)
+room-more c = let l = loop-of c in S.room-more (here (found l)) (l .loop .inv .1) (in-loop c) (short (line-of (found l)))
 
 -- ---- after a line
 
@@ -106,40 +124,40 @@ abbrev this : Took → At-lines
 this t = line-of (found (fields-of t))
 
 abbrev after : Took → List ℕ
-after t = t .take .last .1 .1 .1 .0
+after t = fields-of t .loop .levels
 
 all-read : (t : Took) → end-of (found (fields-of t)) ≤ fields-of t .loop .tab
 all-read t = t .before .before .loop-test .left
 
 -- what the line gave
 abbrev Given : Took → Effect → Type 0
-Given t r = Gives (text (this t)) (fields-of t .loop .line) (S.soFar (this t .lines .plan)) (this t .lines .levels) (after t) r
+Given t r = let l = fields-of t .loop in Gives (l .inv .1 .seen) (l .line) (S.soFar (this t .lines .plan)) (this t .lines .levels) (l .levels) r
 
 -- the walk goes on with this plan
 abbrev Next : Took → Plan → Type 0
 Next t h = Walking (text (this t)) (area (this t)) (after t) h (this t .lines .number + 1) (end-of (found (fields-of t)) + 1)
 
 -- the three arms of the match
-abbrev took : tie.After-slice-known2 Inv-loop μ-loop Inv-lines μ-lines → Took
-took m = m .before .before
-
 gave : {x : Effect} (t : Took) → t .take .result ≡ x → Given t x
-gave t e = subst (Given t) e (t .take .ensures)
+gave t e =
+    let l = fields-of t in
+    let whole = S.whole (here (found l)) (l .loop .inv .1) (all-read t) in
+    subst (Given t) e (t .take .ensures (l .loop .inv .1 .seen) (this t .lines .levels) whole)
 
-entry : (c : tie.After-r Inv-loop μ-loop Inv-lines μ-lines) → Given (took (c .before .before)) (Entry (c .r .given .0 .0))
-entry c = gave (took (c .before .before)) (c .r .given .1)
+entry : (c : tie.After-r Inv-loop μ-loop Inv-lines μ-lines) → Given (c .before .before) (Entry (c .r .given .0 .0))
+entry c = gave (c .before .before) (c .r .given .1)
 
-headed : (c : tie.After-n Inv-loop μ-loop Inv-lines μ-lines) → let t = took (c .before .before) in
+headed : (c : tie.After-n Inv-loop μ-loop Inv-lines μ-lines) → let t = c .before .before in
     Next t (withHead (this t .lines .plan) (c .n .given .0 .0) (c .n .given .0 .1 .0))
 headed c =
-    let t = took (c .before .before) in
+    let t = c .before .before in
     S.headed (here (found (fields-of t))) (fields-of t .loop .inv .1) (all-read t) (gave t (c .n .given .1))
 
-entered : (c : tie.After-from-u16 Inv-loop μ-loop Inv-lines μ-lines) → let e = c .before .before in let t = took (e .before .before) in
+entered : (c : tie.After-from-u16 Inv-loop μ-loop Inv-lines μ-lines) → let e = c .before .before in let t = e .before .before in
     Next t (withRow (this t .lines .plan) (e .r .given .0 .0) (c .from-u16 .result))
 entered c =
     let e = c .before .before in
-    let t = took (e .before .before) in
+    let t = e .before .before in
     S.entered (here (found (fields-of t))) (fields-of t .loop .inv .1) (all-read t) (long (this t)) (c .from-u16 .ensures) (entry e)
 
 -- ---- the ways out
@@ -150,17 +168,17 @@ ended c = let l = c .before .lines in S.ended (l .inv .1) (l .inv .0) (c .lines-
 unended : (c : tie.Then1 Inv-loop μ-loop Inv-lines μ-lines) → let a = c .before .before .before in Out a (a .lines .levels) WRONG-FORM
 unended c = let i = c .before .before in S.unended (i .before .lines .inv .1) (i .lines-test .taken) (c .before .find .ensures) (c .if1 .taken)
 
-unread : (c : tie.After-enum-told Inv-loop μ-loop Inv-lines μ-lines) → let a = line-of (found (c .before .before .before .before)) in
-    Out a (a .lines .levels) WRONG-FORM
+unread : (c : tie.After-enum-told Inv-loop μ-loop Inv-lines μ-lines) → let l = c .before .before .before .before in
+    Out (line-of (found l)) (l .loop .levels) WRONG-FORM
 unread c =
     let i = c .before .before .before in
     let wrong = rw (c .enum-told .given .1) at (c .before .before .field-after .ensures) in
     S.unread (here (found (i .before))) (i .before .loop .inv .1) (i .loop-test .taken) wrong
 
-faulted : (c : tie.After-k Inv-loop μ-loop Inv-lines μ-lines) → let t = took (c .before .before) in Out (this t) (after t) (c .k .given .0 .0)
+faulted : (c : tie.After-k Inv-loop μ-loop Inv-lines μ-lines) → let t = c .before .before in Out (this t) (after t) (c .k .given .0 .0)
 faulted c =
-    let t = took (c .before .before) in
-    S.faulted (here (found (fields-of t))) (fields-of t .loop .inv .1) (all-read t) (gave t (c .k .given .1)) (t .take .kept .1 .1 .1 .0)
+    let t = c .before .before in
+    S.faulted (here (found (fields-of t))) (fields-of t .loop .inv .1) (all-read t) (gave t (c .k .given .1))
 
 -- where they meet: each place is built again from its parts
 out : (c : tie.Left-lines Inv-loop μ-loop Inv-lines μ-lines) → Out (c .before) (c .lines-test .levels) (c .lines-test .fault)
@@ -184,9 +202,8 @@ out c =
     let f : Found = record { before = record { before = i; find = w .1 }; if1 = w .2 } in
     let l : At-loop = record { before = record { before = f; begin = w .3 }; loop = w .4 } in
     let t : Took = record { before = record { before = record { before = l; loop-test = w .5 }; take-arg = w .6 }; take = w .7 } in
-    let m : tie.After-slice-known2 Inv-loop μ-loop Inv-lines μ-lines = record { before = record { before = t; levels = w .8 }; slice-known2 = w .9 } in
     -- a fault of the line
-    rw (w .13, w .14) (faulted (record { before = record { before = m; match2 = w .10 }; k = w .11 })))))
+    rw (w .11, w .12) (faulted (record { before = record { before = t; match2 = w .8 }; k = w .9 })))))
     (c .lines-test .came)
 
 -- ---- what the code asks for
@@ -212,23 +229,28 @@ field-after-requires c κs = (c .loop-test .taken, S.line-in (here (found (c .be
 enum-known-v : tie.Need-enum-known-v Inv-loop μ-loop Inv-lines μ-lines
 enum-known-v c = search needs
 
+store-level-requires : tie.Need-store-level-requires Inv-loop μ-loop Inv-lines μ-lines
+store-level-requires c κs =
+    let v = c .before .before in
+    let a = line-of (found (loop-of v)) in
+    let w = a .lines .inv .1 in
+    (room-more v .0, w .room .levels, omega (arith, loop-of v .loop .inv .1 .stored .long, w .held .long, long a))
+
 with-number-requires : tie.Need-with-number-requires Inv-loop μ-loop Inv-lines μ-lines
-with-number-requires c κs =
-    let l = loop-of (c .before) in
-    S.room-more (here (found l)) (l .loop .inv .1) (in-loop (c .before)) (short (line-of (found l)))
+with-number-requires c κs = room-more (number-of c)
 
 loop-less : tie.Need-loop-less Inv-loop μ-loop Inv-lines μ-lines
 loop-less c =
-    let v = c .before .before in
+    let v = number-of (c .before) in
     let l = loop-of v in
     omega (arith, S.field-in (here (found l)) (l .loop .inv .1) (in-loop v) (field v))
 
 loop-again : tie.Need-loop-again Inv-loop μ-loop Inv-lines μ-lines
 loop-again c =
-    let v = c .before .before in
+    let v = number-of (c .before) in
     let l = loop-of v in
     let more = S.scan-more (here (found l)) (l .loop .inv .1) (in-loop v) (field v) in
-    (l .loop .inv .0, rw (c .with-number .ensures, toZ-ofZ (fits (c .before))) more)
+    (l .loop .inv .0, rw (c .with-number .ensures, stored-of (c .before) .store-level .ensures, toZ-ofZ (fits (told-of (c .before)))) more)
 
 enum-told : tie.Need-enum-told Inv-loop μ-loop Inv-lines μ-lines
 enum-told c = search needs
@@ -238,7 +260,8 @@ take-requires c κs =
     let l = c .before .before in
     let a = line-of (found l) in
     let w = a .lines .inv .1 in
-    (S.whole (here (found l)) (l .loop .inv .1) (c .before .loop-test .left), w .room, omega (arith, w .held .long, long a))
+    let s = l .loop .inv .1 in
+    ((s .seen, a .lines .levels, S.whole (here (found l)) s (c .before .loop-test .left)), w .room, omega (arith, s .stored .long, w .held .long, long a))
 
 enum-known-k : tie.Need-enum-known-k Inv-loop μ-loop Inv-lines μ-lines
 enum-known-k c = search needs
@@ -265,17 +288,17 @@ add-plan-2 : tie.Need-add-plan-2 Inv-loop μ-loop Inv-lines μ-lines
 add-plan-2 c = omega (arith, entered c .room .levels)
 
 add-number : tie.Need-add-number Inv-loop μ-loop Inv-lines μ-lines
-add-number c = let f = found (fields-of (took (c .before))) in omega (arith, S.step-in (here f) .0, short (line-of f))
+add-number c = let f = found (fields-of (c .before)) in omega (arith, S.step-in (here f) .0, short (line-of f))
 
 add-at : tie.Need-add-at Inv-loop μ-loop Inv-lines μ-lines
-add-at c = let f = found (fields-of (took (c .before))) in omega (arith, S.line-in (here f) .1, short (line-of f))
+add-at c = let f = found (fields-of (c .before)) in omega (arith, S.line-in (here f) .1, short (line-of f))
 
 lines-less : tie.Need-lines-less Inv-loop μ-loop Inv-lines μ-lines
-lines-less c = omega (arith, S.step-in (here (found (fields-of (took (c .before))))) .1)
+lines-less c = omega (arith, S.step-in (here (found (fields-of (c .before)))) .1)
 
 lines-again : tie.Need-lines-again Inv-loop μ-loop Inv-lines μ-lines
 lines-again c = (
-  fields-of (took (c .before)) .loop .inv .0,
+  fields-of (c .before) .loop .inv .0,
   ⊎-elim
       (λ x. rw (x .3) (headed (record { before = record { before = c .before; match2 = x .0 }; n = x .1 })))
       (λ x.
@@ -308,6 +331,7 @@ read-lines-spec =
     loop-holds
     field-after-requires
     enum-known-v
+    store-level-requires
     with-number-requires
     loop-less
     loop-again
