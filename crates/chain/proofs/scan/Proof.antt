@@ -59,6 +59,7 @@ use Rattle.chain.proofs.ByHand.{word-typed, slice-typed, set-typed, hel
 use Rattle.chain.proofs.ByHand.{ListOf, lends-on, comes-on, answered, by-walk, stay-word, stay-set}
 use Rattle.chain.proofs.Searched.{searched, taken, left}
 use Rattle.chain.proofs.Marks.{Under, under-start, under-step, under-end}
+use Rattle.chain.proofs.Limits.{low}
 use Rattle.chain.proofs.look_at as look-at
 use Rattle.chain.proofs.look_at.Symbol as look-at-def
 use Rattle.chain.proofs.look_at.Symbol.{name as #chain·look-at}
@@ -304,8 +305,7 @@ module _ {M : Type 1} (𝓤 : URA M) (H : Heap 𝓤) (A : Atoms 𝓤) (W : Given
 
             next : (r′ : EventSet) (nx′ : List ℕ) → Done i r nx r′ nx′ → SoFar (i + 1) r′ nx′
             next r′ nx′ = under-step (x .now) (y .now) m a (bitsOf from) (z .now) i (bitsOf r) nx (bitsOf r′) nx′ h small
-                (omega (arith, asks .table .events, asks .given .fit i small .start))
-                (omega (arith, asks .table .events, asks .given .fit i small .end))
+                (low (asks .table) (asks .given .fit i small .start)) (low (asks .table) (asks .given .fit i small .end))
 
         -- the turn that leaves the loop, and the rest of the body
         ends : (i : ℕ) (r : EventSet) (u : Val) (nx : List ℕ) (X : SProp 𝓤) → i ≡ m → SoFar i r nx → Is S.the-row r (u ∷ [])
