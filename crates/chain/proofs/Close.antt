@@ -4,14 +4,15 @@ use mathlib.Core.Path.{_≡_, refl, sym, ap, ap₂, _∙_, subst}
 use mathlib.Core.Bool.{true}
 use mathlib.Core.Logic.{⊎-elim}
 use mathlib.Core.List.{List, [], _∷_, _++_, map, List·Memᴰ, List·Memᴰ·head, List·Memᴰ·tail, List·Memᴰ·cases-cons, Memᴰ·cast, Memᴰ·map}
-use Prim.Native.Nat.{ℕ, zero, suc, _+_, _*_, _^_, _≤_, _<_}
+use Prim.Native.Nat.{ℕ, zero, suc, _+_, _*_, _≤_, _<_}
 use native.Mathlib.Omega.{arith}
 use lib.ListN.{length, getD, length-append}
 use lib.IntN.{ℤ}
-use lib.Count.{ones, ones-le, trailingZeros}
+use lib.Count.{ones, trailingZeros}
 use Rattle.ticks.proofs.Ticks.{ticks, sum}
 use Rattle.eventset.specs.Sets.{WIDTH, member}
 use Rattle.eventset.proofs.Laws.{lowest-member, lowest-least}
+use Rattle.meaning.specs.Plan.{MOST-EVENTS}
 use Rattle.meaning.specs.Bounds.{Bound, Leads, stop, step, total}
 use Rattle.meaning.specs.Outcome.{over}
 use Rattle.meaning.proofs.Walks.{Parted, part}
@@ -22,6 +23,7 @@ use Rattle.chain.specs.Marks.{NOTES, note, Notes, Noted, Marking, Reache
 use Rattle.chain.proofs.Notes.{noted-other, noted-same, notes-note}
 use Rattle.chain.proofs.Trail.{Trail, trail}
 use Rattle.chain.proofs.Lead.{Place}
+use Rattle.chain.proofs.Limits.{low, fits, few}
 
 pub listed-at : (list : List Entry) (m k : ℕ) → k < m → m ≤ length list → List·Memᴰ (boundAt list k) (listed list m)
 listed-at [] m k l h = absurd (omega arith)
@@ -58,23 +60,22 @@ module _ (list : List Entry) (d : List ℤ) (n m : ℕ) (nx : List ℕ) (broken 
   abbrev pub closed : List ℕ
   closed = note nx β
 
-  start-low : {x : Bound} → Fit n x → x .start < WIDTH
-  start-low f = omega (arith, broken .table .events, f .start)
+  -- its ends are events
+  start-low : β .start < MOST-EVENTS
+  start-low = low (broken .table) (broken .given .fit m (omega arith) .start)
 
-  end-low : {x : Bound} → Fit n x → x .end < WIDTH
-  end-low f = omega (arith, broken .table .events, f .end)
+  end-low : β .end < MOST-EVENTS
+  end-low = low (broken .table) (broken .given .fit m (omega arith) .end)
 
   module _ {nx₀ : List ℕ} (s : ℕ) (marked : Reached list d m (β .start) (β .end) nx₀ s nx) where
     pub start-inside : 2 * β .start + 1 < length nx
-    start-inside = omega (arith, start-low (broken .given .fit m (omega arith)), marked .notes .room)
+    start-inside = omega (arith, start-low, marked .notes .room)
 
     pub way-back : Trail list d m (β .start) s nx (β .end)
     way-back = trail list d m (β .start) (β .end) (broken .self) (marked .marks) (marked .reached)
 
     pub closed-notes : Notes closed
-    closed-notes =
-        let f = broken .given .fit m (omega arith) in
-        notes-note nx β (start-low f) (end-low f) (marked .notes)
+    closed-notes = notes-note nx β start-low end-low (marked .notes)
 
     pub closed-path : Path closed (β .start) (β .end) (way-back .steps)
     closed-path = record {
@@ -88,8 +89,8 @@ module _ (list : List Entry) (d : List ℤ) (n m : ℕ) (nx : List ℕ) (broken 
     pub visiting : Visiting closed (β .start) (β .end)
     visiting = record {
       notes = closed-notes;
-      from = end-low (broken .given .fit m (omega arith));
-      to = start-low (broken .given .fit m (omega arith));
+      from = end-low;
+      to = start-low;
       steps = way-back .steps;
       path = closed-path;
     }
@@ -136,16 +137,17 @@ module _ (list : List Entry) (d : List ℤ) (n m : ℕ) (nx : List ℕ) (broken 
       end-visited : member r (β .end) ≡ true
       end-visited = events .all (β .end) (List·Memᴰ·head refl)
 
-      pub writing : (from : ℕ) (out : List ℕ) → from ≡ first → r < 2 ^ WIDTH → WIDTH ≤ length out → Writing closed from (ones r) out
-      writing from out e l h = record {
+      -- the visited events are the round's, so that they are no more than there are events
+      pub writing : (from : ℕ) (out : List ℕ) → from ≡ first → MOST-EVENTS ≤ length out → Writing closed from (ones r) out
+      writing from out e room = record {
         notes = closed-notes;
-        from = omega (arith, e, lowest-least WIDTH r (β .end) end-visited (visiting .from), visiting .from);
-        room = omega (arith, ones-le WIDTH r l);
+        from = omega (arith, e, end-low, lowest-least WIDTH r (β .end) end-visited (fits end-low));
+        room = omega (arith, events .count, few (broken .given) round (loop .given) (loop .once), broken .table .events);
       }
 
       parted : Parted (β .start) first (β .start) round
       parted = part (loop .closed) first
-          (List·Memᴰ·tail (events .only first (lowest-member WIDTH r (β .end) end-visited (visiting .from))))
+          (List·Memᴰ·tail (events .only first (lowest-member WIDTH r (β .end) end-visited (fits end-low))))
 
       abbrev chain : List Bound
       chain = parted .back ++ parted .front
@@ -171,7 +173,7 @@ module _ (list : List Entry) (d : List ℤ) (n m : ℕ) (nx : List ℕ) (broken 
             negative = turned .negative;
             least = λ x i.
                 let j = turned-back parted i in
-                lowest-least WIDTH r (x .start) (visited x j) (start-low (bound-fit x j));
+                lowest-least WIDTH r (x .start) (visited x j) (fits (low (broken .table) (bound-fit x j .start)));
             counted = counted;
             written = w ∙ ap (λ (l : List ℕ). over l before) (ap₂ (codesFrom closed) e counted ∙ codes);
           }

@@ -9,8 +9,9 @@ use native.Mathlib.Decide.{ℕ-discrete}
 use lib.ListN.{length, getD}
 use lib.IntN.{ℤ}
 use lib.Count.{ones}
-use Rattle.eventset.specs.Sets.{WIDTH, member, putIn}
+use Rattle.eventset.specs.Sets.{member, putIn}
 use Rattle.eventset.proofs.Laws.{put-same, put-other, put-keeps, count-fresh}
+use Rattle.meaning.specs.Plan.{MOST-EVENTS}
 use Rattle.chain.specs.declared.Bound.{Bound as Entry}
 use Rattle.chain.specs.Clash.{boundAt, TightAt, Lead, here, by}
 use Rattle.chain.specs.Marks.{note, Notes, Look, kept, marked, Untouched, Marks, same, more, Scanned}
@@ -84,7 +85,7 @@ module _ (list : List Entry) (d : List ℤ) (m a : ℕ) where
       record { within = omega arith; long = refl; marks = same refl refl; notes = t; part = λ k l. absurd (omega arith) }
 
   pub under-step : (s : ℕ) (nx₀ : List ℕ) (i r : ℕ) (nx : List ℕ) (r′ : ℕ) (nx′ : List ℕ) → Under s nx₀ i r nx → i < m
-      → boundAt list i .start < WIDTH → boundAt list i .end < WIDTH
+      → boundAt list i .start < MOST-EVENTS → boundAt list i .end < MOST-EVENTS
       → Look d a (boundAt list i) r nx r′ nx′ → Under s nx₀ (i + 1) r′ nx′
   under-step s nx₀ i r nx r′ nx′ c l f g (kept p q h) = record {
     within = omega arith;

@@ -6,7 +6,7 @@ use native.Mathlib.Omega.{arith}
 use native.Mathlib.Decide.{ℕ-discrete}
 use lib.ListN.{length, getD, set, length-set}
 use lib.Seq.{getD-set-same, getD-set-other}
-use Rattle.eventset.specs.Sets.{WIDTH}
+use Rattle.meaning.specs.Plan.{MOST-EVENTS}
 use Rattle.meaning.specs.Bounds.{Bound}
 use Rattle.chain.specs.Marks.{endAt, codeAt, note, Notes, Noted}
 
@@ -46,9 +46,9 @@ module _ (nx : List ℕ) (β : Bound) where
   pub noted-same : here + 1 < length nx → Noted (note nx β) β
   noted-same l = record { to = end-same l; code = code-same l }
 
-  pub notes-note : β .start < WIDTH → β .end < WIDTH → Notes nx → Notes (note nx β)
+  pub notes-note : β .start < MOST-EVENTS → β .end < MOST-EVENTS → Notes nx → Notes (note nx β)
   notes-note h k t = record { room = omega (arith, length-note, t .room); low = λ e. at e (ℕ-discrete e (β .start)) }
     where
-      at : (e : ℕ) → Dec (e ≡ β .start) → endAt (note nx β) e < WIDTH
+      at : (e : ℕ) → Dec (e ≡ β .start) → endAt (note nx β) e < MOST-EVENTS
       at e (yes p) = omega (arith, ap (endAt (note nx β)) p, end-same (omega (arith, t .room)))
       at e (no n) = omega (arith, end-other e n, t .low e)

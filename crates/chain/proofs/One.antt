@@ -1,19 +1,18 @@
 -- What `Found` leaves free is the chain, and nothing else: past its codes the area is as before, and it is as long as before, since the
 -- codes fit; so two results over one area differ in the codes of their chains only.
-use mathlib.Core.Path.{_≡_, sym, ap, _∙_, subst}
-use mathlib.Core.List.{List, map, List·Memᴰ, Memᴰ·of-map}
-use Prim.Native.Nat.{ℕ, _+_, _≤_, _<_}
+use mathlib.Core.Path.{_≡_, sym, ap, _∙_}
+use mathlib.Core.List.{List, map}
+use Prim.Native.Nat.{ℕ, _+_, _≤_}
 use native.Mathlib.Omega.{arith}
 use lib.ListN.{length, getD, length-map}
 use lib.IntN.{ℤ}
-use Rattle.eventset.specs.Sets.{WIDTH}
-use Rattle.meaning.specs.Bounds.{Bound, ends}
+use Rattle.meaning.specs.Plan.{MOST-EVENTS}
+use Rattle.meaning.specs.Bounds.{Bound}
 use Rattle.meaning.specs.Outcome.{over}
 use Rattle.meaning.proofs.Over.{over-long, over-rest}
-use Rattle.meaning.proofs.Pigeons.{pigeons}
 use Rattle.chain.specs.declared.Bound.{Bound as Entry}
 use Rattle.chain.specs.Clash.{listed, Given, Broken, Found}
-use Rattle.chain.proofs.Lead.{place-of}
+use Rattle.chain.proofs.Limits.{few}
 
 -- ---- one result
 
@@ -49,16 +48,10 @@ module _ {bounds : List Bound} {before : List ℕ} where
 -- ---- the codes fit: no event is entered twice, and there are n
 
 pub found-most : {list : List Entry} {n m r : ℕ} {before after : List ℕ} → Given list n m → Found (listed list m) before r after → r ≤ n
-found-most {list} {n} {m} given f = omega (arith, f .counted, length-map (f .steps) (λ b. b .end), pigeons n (ends (f .steps)) (f .once) below)
-  where
-    below : (v : ℕ) → List·Memᴰ v (ends (f .steps)) → v < n
-    below v i =
-        let b = Memᴰ·of-map (λ b. b .end) (f .steps) i in
-        let p = place-of list m (b .0) (f .given (b .0) (b .1)) in
-        subst (λ (x : ℕ). x < n) (ap (λ (x : Bound). x .end) (p .is) ∙ b .2) (given .fit (p .place) (p .low) .end)
+found-most given f = omega (arith, f .counted, few given (f .steps) (f .given) (f .once))
 
 -- what `chain_of` asks for is enough
-pub one-chain : {list : List Entry} {d : List ℤ} {n m q r : ℕ} {before x y : List ℕ} → Broken list d n m → WIDTH ≤ length before
+pub one-chain : {list : List Entry} {d : List ℤ} {n m q r : ℕ} {before x y : List ℕ} → Broken list d n m → MOST-EVENTS ≤ length before
     → (f : Found (listed list (m + 1)) before q x) (g : Found (listed list (m + 1)) before r y) → OneFound f g
 one-chain broken room f g =
     one-found f g

@@ -8,7 +8,7 @@ use lib.Dec.{T}
 use lib.ListN.{length, getD, set}
 use lib.IntN.{ℤ}
 use lib.Count.{ones}
-use Rattle.eventset.specs.Sets.{WIDTH, member, putIn}
+use Rattle.eventset.specs.Sets.{member, putIn}
 use Rattle.meaning.specs.Plan.{MOST-EVENTS}
 use Rattle.meaning.specs.Bounds.{Bound, Leads, distinct, ends}
 use Rattle.meaning.specs.Outcome.{over}
@@ -35,7 +35,7 @@ note nx β = set (set nx (2 * β .start) (β .end)) (2 * β .start + 1) (β .cod
 -- notes that lead from event to event
 pub record Notes (nx : List ℕ) : Type 0 where
   pub room : NOTES ≤ length nx
-  pub low : (e : ℕ) → endAt nx e < WIDTH
+  pub low : (e : ℕ) → endAt nx e < MOST-EVENTS
 
 -- the bound x is noted at its start
 pub record Noted (nx : List ℕ) (x : Bound) : Type 0 where
@@ -115,8 +115,8 @@ pub record Path (nx : List ℕ) (a b : ℕ) (steps : List Bound) : Type 0 where
 
 pub record Visiting (nx : List ℕ) (a b : ℕ) : Type 0 where
   pub notes : Notes nx
-  pub from : b < WIDTH
-  pub to : a < WIDTH
+  pub from : b < MOST-EVENTS
+  pub to : a < MOST-EVENTS
   pub steps : List Bound
   pub path : Path nx a b steps
 
@@ -136,7 +136,7 @@ codesFrom nx e (suc c) = codeAt nx e ∷ codesFrom nx (endAt nx e) c
 
 pub record Writing (nx : List ℕ) (e c : ℕ) (out : List ℕ) : Type 0 where
   pub notes : Notes nx
-  pub from : e < WIDTH
+  pub from : e < MOST-EVENTS
   pub room : c ≤ length out
 
 -- as many codes as there are visited events

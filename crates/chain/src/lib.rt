@@ -3,7 +3,8 @@ ghost use mathlib.Core.Path.{_≡_};
 ghost use Prim.Native.Nat.{ℕ, _+_, _*_, _≤_, _<_};
 ghost use lib.ListN.{length};
 ghost use lib.Count.{ones};
-ghost use Rattle.eventset.specs.Sets.{WIDTH, bitsOf};
+ghost use Rattle.eventset.specs.Sets.{bitsOf};
+ghost use Rattle.meaning.specs.Plan.{MOST-EVENTS};
 ghost use Rattle.chain.specs.Clash.{boundOf, boundAt, Tight, listed, Broken, Found};
 ghost use Rattle.chain.specs.Marks.{NOTES, note as noteIn, Looking, Decided, Look, Scanning, Scanned, Marking, Reached};
 ghost use Rattle.chain.specs.Marks.{Visiting, Visited, Writing, Written};
@@ -172,7 +173,7 @@ fn write(notes: &[u16], from: usize, seen: eventset::EventSet, out: &mut [u16]) 
 // Bound m cannot be kept with the bounds before it, whose distances are d: writes the codes of a chain that shows it, from its least
 // event on. Returns the number of steps.
 pub fn chain_of(list: [Bound; MOST_BOUNDS], m: usize, d: &[i32], out: &mut [u16]) -> usize
-    requires { ⌜ ((n : ℕ) × Broken list (now d) n m) × (WIDTH ≤ length (now out)) ⌝ }
+    requires { ⌜ ((n : ℕ) × Broken list (now d) n m) × (MOST-EVENTS ≤ length (now out)) ⌝ }
     ensures { λ r. ⌜ Found (listed list (m + 1)) (now (out .entry)) r (now (out .exit)) ⌝ }
 {
     let last = list[m];

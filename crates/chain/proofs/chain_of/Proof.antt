@@ -131,9 +131,8 @@ write-requires c κs =
     let l = c .before .before in
     let e = l .before in
     let s = begun e in
-    -- `.ok` has the range of the set's number
     rw (noted e .note .ensures)
-    (writing _ _ _ _ _ (s .pre .0 .1) _ (reached (marked (noted e))) _ (gone e) _ _ (l .lowest .ensures) (e .events .ok .1 .1 .0 .1) (s .pre .1))
+    (writing _ _ _ _ _ (s .pre .0 .1) _ (reached (marked (noted e))) _ (gone e) _ _ (l .lowest .ensures) (s .pre .1))
 
 same-length : tie.Need-same-length
 same-length c = search needs

@@ -8,15 +8,17 @@ use native.Mathlib.Omega.{arith}
 use lib.Count.{ones, ones-le}
 use Rattle.eventset.specs.Sets.{WIDTH, bitsOf, member}
 use Rattle.eventset.proofs.Laws.{count-fresh}
+use Rattle.meaning.specs.Plan.{MOST-EVENTS}
 use Rattle.meaning.specs.Bounds.{Bound}
 use Rattle.chain.specs.Marks.{Path}
+use Rattle.chain.proofs.Limits.{fits}
 use Rattle.chain.proofs.Visit.{Passing, Next, pass-start, pass, passed}
 use Rattle.chain.proofs.events.Statement.{statement}
 use Rattle.chain.proofs.events.Tie as tie
 
 abbrev Inv-loop : tie.InvT-loop
 Inv-loop notes a b seen₀ e₀ seen e =
-    (e < WIDTH) × ((steps : List Bound) → Path notes a b steps → Passing notes a b steps (bitsOf seen) e)
+    (e < MOST-EVENTS) × ((steps : List Bound) → Path notes a b steps → Passing notes a b steps (bitsOf seen) e)
 
 abbrev μ-loop : tie.MeasureT-loop
 μ-loop notes a b seen₀ e₀ seen e = WIDTH - ones (bitsOf seen)
@@ -43,7 +45,7 @@ loop-holds c =
     (s .pre .from, λ steps p. rw (c .empty .ensures) (pass-start _ _ _ _ p))
 
 put-requires : tie.Need-put-requires Inv-loop μ-loop
-put-requires c κs = c .before .loop .inv .0
+put-requires c κs = fits (c .before .loop .inv .0)
 
 mul-from-u16 : tie.Need-mul-from-u16 Inv-loop μ-loop
 mul-from-u16 c = omega (arith, c .before .before .loop .inv .0)
@@ -77,7 +79,7 @@ loop-again c =
     rw (c .from-u16 .ensures, p .put .ensures) (start i .pre .notes .low (i .before .loop .e), λ steps q. there i steps q .then)
 
 put-requires-2 : tie.Need-put-requires-2 Inv-loop μ-loop
-put-requires-2 c κs = c .before .loop .inv .0
+put-requires-2 c κs = fits (c .before .loop .inv .0)
 
 returns : tie.Need-returns Inv-loop μ-loop
 returns c =

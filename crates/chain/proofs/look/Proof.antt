@@ -2,8 +2,10 @@
 use borrow.Author.Needs.{needs}
 use borrow.Author.Tests.{not-true, not-false}
 use mathlib.Core.Path.{_≡_, refl, sym, ap, _∙_}
-use Rattle.eventset.specs.Sets.{bitsOf, member, putIn}
+use Prim.Native.Nat.{_<_}
+use Rattle.eventset.specs.Sets.{WIDTH, bitsOf, member, putIn}
 use Rattle.chain.specs.Marks.Look.{kept, marked}
+use Rattle.chain.proofs.Limits.{low, fits}
 use Rattle.chain.proofs.Marks.{not-both}
 use Rattle.chain.proofs.look.Statement.{statement}
 use Rattle.chain.proofs.look.Tie as tie
@@ -14,12 +16,18 @@ from-u8-requires c κs = search needs
 from-u8-requires-2 : tie.Need-from-u8-requires-2
 from-u8-requires-2 c κs = search needs
 
-has-requires : tie.Need-has-requires
-has-requires c κs = search needs
-
--- the first test asks for the bound's start, the second for its end
+-- both ends of the bound fit into the set: the first test asks for its start, the second for its end
 abbrev start : tie.After-from-u82 → tie.Start
 start c = c .before .before .before
+
+start-fits : (c : tie.After-from-u82) → c .before .from-u8 .result < WIDTH
+start-fits c = let p = start c .pre .0 in rw (c .before .from-u8 .ensures) (fits (low (p .table) (p .fit .start)))
+
+end-fits : (c : tie.After-from-u82) → c .from-u82 .result < WIDTH
+end-fits c = let p = start c .pre .0 in rw (c .from-u82 .ensures) (fits (low (p .table) (p .fit .end)))
+
+has-requires : tie.Need-has-requires
+has-requires c κs = start-fits c
 
 start-told : (c : tie.After-has) →
     let s = start (c .before) .args in
@@ -35,7 +43,7 @@ returns : tie.Need-returns
 returns c = kept refl refl (λ t h. sym (start-told (c .before)) ∙ c .if1 .taken)
 
 has-requires-2 : tie.Need-has-requires-2
-has-requires-2 c κs = search needs
+has-requires-2 c κs = end-fits (c .before .before)
 
 returns-2 : tie.Need-returns-2
 returns-2 c = kept refl refl (λ t h. absurd (not-both h (sym (end-told (c .before)) ∙ not-true _ (c .if2 .taken))))
@@ -49,22 +57,22 @@ returns-3 c = kept refl refl (λ g h. absurd (c .before .tight .ensures .left (n
 note-requires : tie.Need-note-requires
 note-requires c κs = search needs
 
-put-requires : tie.Need-put-requires
-put-requires c κs = search needs
-
-same-length : tie.Need-same-length
-same-length c = search needs
-
 -- where both tests were passed, and where the bound is tight
 abbrev tested : tie.Else3 → tie.After-has2
 tested c = c .before .before .before
 
-abbrev noting : tie.After-put → tie.Else3
-noting c = let n = c .before .before .before in n .before .before
+abbrev noting : tie.After-slice-known2 → tie.Else3
+noting c = let n = c .before .before in n .before .before
+
+put-requires : tie.Need-put-requires
+put-requires c κs = let q = tested (noting c) in start-fits (q .before .before .before)
+
+same-length : tie.Need-same-length
+same-length c = search needs
 
 returns-4 : tie.Need-returns-4
 returns-4 c =
-    let e = noting c in
+    let e = noting (c .before) in
     let q = tested e in
     let f = q .before .before .before in
     marked

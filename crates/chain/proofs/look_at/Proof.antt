@@ -1,6 +1,6 @@
 -- `chain::look_at` meets its contract: a walk of its MIR, by hand. The place of `list[k]` is 8 k past the slice's pointer; the bound is read
 -- and put back, and `look` is called with it, at the notes' own lifetime, share and ghost name, so that they are given up for good.
-use mathlib.Core.Path.{_≡_, refl, sym}
+use mathlib.Core.Path.{refl, sym}
 use Prim.Native.Nat.{ℕ, _<_, _≤_, _*_, _^_}
 use native.Mathlib.Omega.{arith}
 use mathlib.Core.List.{List, [], _∷_}
@@ -19,7 +19,7 @@ use ghost.Atoms.{Atoms}
 use contract.Lifetimes.{Lfts}
 use contract.Monad.{Fun}
 use contract.Running.{givenOf}
-use types.Kit.{Given, Item, ‵, raw, _⊛_, ⋆, _$_, _∵_, !, qed, by, move, keep, use1, use3, split, join, rewrite, fsplit, fjoin, feqL, suffices, frame, done}
+use types.Kit.{Given, Item, ‵, raw, _⊛_, ⋆, _$_, _∵_, !, qed, move, keep, use1, use3, split, join, rewrite, fsplit, fjoin, feqL, frame, done}
 use types.Part.{agg, whole, sub, look-in}
 use types.Run.{look, look-raw, init, stop, hop, fld, from, load, lit, addr, of-opd, bin, and-then, no-more, land, returns}
 use types.Run.{enter, alloc1, alloc0, params1, pass1, pass0, free0}
@@ -29,7 +29,7 @@ use denote.Laws.{Is, shows}
 use denote.Plain.{uint-vals, uint-tells}
 use denote.Builtin.{u16, usize, i32}
 use denote.Ref.{RefT}
-use denote.Slice.{sliceVal, ShrSlice, MutSlice, Room, finally, slice-vals, shr-slice-tells, mut-slice-tells, shr-slice-copy}
+use denote.Slice.{sliceVal, ShrSlice, MutSlice, Room, slice-vals, shr-slice-tells, mut-slice-tells, shr-slice-copy}
 use denote.Index.{place-is}
 use denote.Signature.{plain}
 use denote.Steps.{nothing, peeks}
@@ -51,8 +51,8 @@ use Rattle.chain.specs.Clash.{boundAt}
 use Rattle.chain.specs.Marks.{NOTES, Looking, Look}
 use Rattle.chain.proofs.Bound as T
 use Rattle.chain.proofs.ByHand.{word-typed, slice-typed, bound-typed, set-typed, held, sets, dead, skip, with-word}
-use Rattle.chain.proofs.ByHand.{with-bound, with-set}
-use Rattle.chain.proofs.ByHand.{ListOf, elem, mach, bound-out, bound-back, answered, by-walk, stay-word, stay-set}
+use Rattle.chain.proofs.ByHand.{with-bound, with-set, exits}
+use Rattle.chain.proofs.ByHand.{elem, mach, bound-out, bound-back, answered, by-walk, stay-word, stay-set}
 use Rattle.chain.proofs.look as look′
 use Rattle.chain.proofs.look.Symbol as look-def
 use Rattle.chain.proofs.look.Symbol.{name as #chain·look}
@@ -148,22 +148,6 @@ module _ {M : Type 1} (𝓤 : URA M) (H : Heap 𝓤) (A : Atoms 𝓤) (W : Given
         with-bound ! (elem x k) (mach x k) is $
         move ! (1 ∷ 0 ∷ []) $ fjoin ! $ done !
 
-    -- what is had at the end
-    abbrev Left : EventSet → Val → List ℕ → List (Item 𝓤)
-    Left r w zs = ‵ (flft κ₀ q₀) ∷ tokens ∷ ‵ (finally u16 (z .name) zs) ∷ ‵ (ListOf κ₀ x) ∷ ‵ Far ∷ ‵ (S.the-row .own r (w ∷ [])) ∷ []
-
-    exits : (r : EventSet) (w : Val) (zs : List ℕ) → Done r zs → length zs ≡ length (z .now) → ent 𝓤 (⋆ 𝓤 H A (Left r w zs)) (Walk .post entry w)
-    exits r w zs e l =
-        qed W (Left r w zs) ∵
-        suffices ! _ (ends-at 𝓤 H A look-at.ended stayed (look-at.clauses 𝓤 H A mem run) W entry w r
-        (tt, (tt, (tt, (tt, (tt, (zs, tt)))))) (tt, (tt, (tt, (tt, (tt, (l, tt))))))) $ says ! e $
-        join ! $ frame ! $
-        -- [the last notes; the list; the distances; the result]
-        nothing ! $ move ! (1 ∷ 0 ∷ []) $ fjoin ! $
-        with-set ! seen _ seen-is $
-        with-word ! a a-fits $ move ! (2 ∷ 0 ∷ []) $ fjoin ! $
-        with-word ! k k-fits $ move ! (1 ∷ 0 ∷ []) $ fjoin ! $ frame ! $ done !
-
     module _ (𝓣 : Tables 𝓤 H) (known : Triple 𝓤 (𝓣 .C #chain·look) Looks) where
       walk : Room T.the-row (length (x .now)) → Room i32 (length (y .now)) → Room u16 (length (z .now)) → (k < length (x .now)) × Asked
           → ent 𝓤 (onEntry 𝓤 H A look-at.signature κs (q₀, (q₁, (q₂, tt))) args at)
@@ -206,7 +190,9 @@ module _ {M : Type 1} (𝓤 : URA M) (H : Heap 𝓤) (A : Atoms 𝓤) (W : Given
           land ! (from ! (stop !)) (init ! 32 refl (set-typed W r w is)) $ returns ! (look ! 32 refl) $
           dead ! 32 32 refl $ dead ! 30 30 refl $ dead ! 28 28 refl $ dead ! 26 26 refl $ dead ! 24 24 refl $ dead ! 22 22 refl $ dead ! 20 20 refl $
           dead ! 18 18 refl $ dead ! 16 16 refl $ dead ! 14 14 refl $ dead ! 12 12 refl $ dead ! 10 10 refl $ dead ! 8 8 refl $ free0 ! $
-          keep ! (6 ∷ 1 ∷ 2 ∷ 7 ∷ 5 ∷ 0 ∷ []) $ by ! (exits r w (zs .1 .1 .1 .1 .0) e l)))))))))))))))))))
+          keep ! (6 ∷ 1 ∷ 7 ∷ 5 ∷ 2 ∷ 0 ∷ []) $ join ! $ exits k a seen _ k-fits a-fits seen-is ! e
+          (ends-at 𝓤 H A look-at.ended stayed (look-at.clauses 𝓤 H A mem run) W entry w r
+          (tt, (tt, (tt, (tt, (tt, (zs .1 .1 .1 .1 .0, tt)))))) (tt, (tt, (tt, (tt, (tt, (l, tt)))))))))))))))))))))))))
         where
           far : k * 8 < 2 ^ 64
           far = omega (arith, room₀ .1)

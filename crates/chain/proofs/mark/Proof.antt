@@ -8,6 +8,7 @@ use lib.Count.{ones, ones-le}
 use Rattle.eventset.specs.Sets.{WIDTH, bitsOf, putIn}
 use Rattle.eventset.proofs.Laws.{one-member}
 use Rattle.chain.specs.Marks.{Notes, Marks, same}
+use Rattle.chain.proofs.Limits.{low, fits}
 use Rattle.chain.proofs.Marks.{marks-keep, marks-then, marks-untouched, progress}
 use Rattle.chain.proofs.mark.Statement.{statement}
 use Rattle.chain.proofs.mark.Tie as tie
@@ -30,7 +31,7 @@ empty-requires : tie.Need-empty-requires Inv-loop μ-loop
 empty-requires c κs = tt
 
 put-requires : tie.Need-put-requires Inv-loop μ-loop
-put-requires c κs = let p = c .before .before .pre in omega (arith, p .to, p .table .events)
+put-requires c κs = let p = c .before .before .pre in fits (low (p .table) (p .to))
 
 loop-holds : tie.Need-loop-holds Inv-loop μ-loop
 loop-holds c =
@@ -38,7 +39,7 @@ loop-holds c =
     (same (c .put .ensures ∙ ap (λ (x : ℕ). putIn x (s .args .a)) (c .before .empty .ensures)) refl, s .pre .notes, refl)
 
 has-requires : tie.Need-has-requires Inv-loop μ-loop
-has-requires c κs = let p = start c .pre in omega (arith, p .from, p .table .events)
+has-requires c κs = let p = start c .pre in fits (low (p .table) (p .from))
 
 scan-listed-requires : tie.Need-scan-listed-requires Inv-loop μ-loop
 scan-listed-requires c κs =

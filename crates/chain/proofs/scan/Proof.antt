@@ -22,7 +22,7 @@ use ghost.Atoms.{Atoms}
 use contract.Lifetimes.{Lfts}
 use contract.Monad.{Fun}
 use contract.Running.{givenOf}
-use types.Kit.{Given, Item, ‵, raw, _⊛_, ⋆, anyQ, atRet, _$_, _∵_, !, qed, by, move, keep, use1, use3, split, join, rewrite, fsplit, fjoin, feqL, suffices}
+use types.Kit.{Given, Item, ‵, raw, _⊛_, ⋆, anyQ, atRet, _$_, _∵_, !, qed, by, move, keep, use1, use3, split, join, rewrite, fsplit, feqL}
 use types.Kit.{frame, done}
 use types.Part.{agg, whole, sub, look-in}
 use types.Run.{look, init, store, forget, stop, hop, fld, from as place′, load, lit, addr, of-opd, bin, and-then, no-more, assigns-last, stays, leaves-loop}
@@ -36,7 +36,7 @@ use denote.Builtin.{u16, usize, i32}
 use denote.Ref.{RefT}
 use denote.Slice.{sliceTy, sliceVal, ShrSlice, MutSlice, Room, slice-vals, shr-slice-tells, mut-slice-tells, shr-slice-copy}
 use denote.Signature.{plain}
-use denote.Steps.{nothing, owned, peeks}
+use denote.Steps.{nothing, peeks}
 use denote.Struct.Laws as LL
 use denote.Triple.Entry.{Args, Vals, onEntry}
 use denote.Triple.Spec.{tripleOf}
@@ -52,13 +52,14 @@ use Rattle.eventset.proofs.EventSet as S
 use Rattle.eventset.proofs.EventSet.Laws as S′
 use Rattle.chain.specs.declared.Bound.{Bound}
 use Rattle.chain.specs.Clash.{boundAt}
-use Rattle.chain.specs.Marks.{Looking, Look, Scanning, Scanned}
+use Rattle.chain.specs.Marks.{Looking, Look, Scanning}
 use Rattle.chain.proofs.Bound as T
 use Rattle.chain.proofs.Lent.{at-list}
-use Rattle.chain.proofs.ByHand.{word-typed, slice-typed, set-typed, held, sets, from-to, dead, skip, with-word, with-set}
+use Rattle.chain.proofs.ByHand.{word-typed, slice-typed, set-typed, held, sets, from-to, dead, skip, has-set, passes, exits}
 use Rattle.chain.proofs.ByHand.{ListOf, lends-on, comes-on, answered, by-walk, stay-word, stay-set}
 use Rattle.chain.proofs.Searched.{searched, taken, left}
 use Rattle.chain.proofs.Marks.{Under, under-start, under-step, under-end}
+use Rattle.chain.proofs.Limits.{low}
 use Rattle.chain.proofs.look_at as look-at
 use Rattle.chain.proofs.look_at.Symbol as look-at-def
 use Rattle.chain.proofs.look_at.Symbol.{name as #chain·look-at}
@@ -192,34 +193,10 @@ module _ {M : Type 1} (𝓤 : URA M) (H : Heap 𝓤) (A : Atoms 𝓤) (W : Given
         says ! (omega (arith, asks .given .long, asks .given .inside), (looking, h .notes .room)) $
         split ! $ move ! (1 ∷ []) $ split ! $ nothing ! $ move ! (2 ∷ 0 ∷ []) $ join ! $ move ! (1 ∷ 0 ∷ []) $ join ! $
         move ! (1 ∷ 0 ∷ []) $ join ! $ frame ! $ split ! $
-        -- [the list; the distances; the notes]
-        nothing ! $ move ! (3 ∷ 0 ∷ []) $ fjoin ! $
-        with-set ! r _ is $
-        with-word ! a a-fits $ move ! (2 ∷ 0 ∷ []) $ fjoin ! $
-        with-word ! i (omega (arith, small, m-fits)) $ move ! (1 ∷ 0 ∷ []) $ fjoin ! $ done !
+        passes i a r u (omega (arith, small, m-fits)) a-fits is ! $ done !
       where
         looking : Looking (y .now) a (boundAt (x .now) i)
         looking = record { n = asks .n; table = asks .table; fit = asks .given .fit i small; to = asks .to }
-
-    -- what is had at the end
-    abbrev Left : List ℕ → List (Item 𝓤)
-    Left nx = ‵ (Area nx (length nx)) ∷ ‵ (flft κ₂ q₂) ∷ ‵ (flft κ₀ q₀) ∷ ‵ (flft κ₁ q₁) ∷ ‵ Own ∷ ‵ Far ∷ []
-
-    exits : (r : EventSet) (u : Val) (nx : List ℕ) → Is S.the-row r (u ∷ [])
-        → Scanned (x .now) (y .now) m a (bitsOf from) (z .now) (bitsOf r) nx → length nx ≡ length (z .now)
-        → ent 𝓤 (⋆ 𝓤 H A (Left nx)) (Walk .post entry u)
-    exits r u nx is e l =
-        qed W (Left nx) ∵
-        suffices ! _ (ends-at 𝓤 H A scan.ended stayed (scan.clauses 𝓤 H A mem run) W entry u r
-        (tt, (tt, (tt, (tt, (tt, (nx, tt)))))) (tt, (tt, (tt, (tt, (tt, (l, tt))))))) $ says ! e $
-        rewrite ! 0 (λ (n : ℕ). ‵ (Area nx n)) l refl $
-        nothing ! $ move ! (2 ∷ 0 ∷ []) $ join ! $ move ! (3 ∷ 0 ∷ []) $ join ! $ move ! (2 ∷ 0 ∷ []) $ join ! $ frame ! $
-        -- [the notes; the list; the distances]
-        nothing ! $ move ! (1 ∷ 0 ∷ []) $ fjoin ! $
-        with-set ! from _ from-is $
-        with-word ! a a-fits $ move ! (2 ∷ 0 ∷ []) $ fjoin ! $
-        with-word ! m m-fits $ move ! (1 ∷ 0 ∷ []) $ fjoin ! $ frame ! $
-        owned ! S.the-row (Is S.the-row) (LL.makes S.the-type S′.the-plain 𝓤 H A) r _ is $ done !
 
     module _ (𝓣 : Tables 𝓤 H) (known : Triple 𝓤 (𝓣 .C #chain·look-at) Looks) (room₂ : Room u16 (length (z .now))) (asks : Asks) where
       module _ (l₀ l₁ l₂ l₃ l₄ l₅ l₆ l₇ l₈ l₉ l₁₀ l₁₁ : ℕ) where
@@ -304,8 +281,7 @@ module _ {M : Type 1} (𝓤 : URA M) (H : Heap 𝓤) (A : Atoms 𝓤) (W : Given
 
             next : (r′ : EventSet) (nx′ : List ℕ) → Done i r nx r′ nx′ → SoFar (i + 1) r′ nx′
             next r′ nx′ = under-step (x .now) (y .now) m a (bitsOf from) (z .now) i (bitsOf r) nx (bitsOf r′) nx′ h small
-                (omega (arith, asks .table .events, asks .given .fit i small .start))
-                (omega (arith, asks .table .events, asks .given .fit i small .end))
+                (low (asks .table) (asks .given .fit i small .start)) (low (asks .table) (asks .given .fit i small .end))
 
         -- the turn that leaves the loop, and the rest of the body
         ends : (i : ℕ) (r : EventSet) (u : Val) (nx : List ℕ) (X : SProp 𝓤) → i ≡ m → SoFar i r nx → Is S.the-row r (u ∷ [])
@@ -320,7 +296,14 @@ module _ {M : Type 1} (𝓤 : URA M) (H : Heap 𝓤) (A : Atoms 𝓤) (W : Given
             dead ! 17 17 refl $ dead ! 11 16 refl $ dead ! 11 15 refl $ dead ! 11 14 refl $ dead ! 11 13 refl $ dead ! 11 12 refl $
             dead ! 11 11 refl $ dead ! 4 10 refl $ dead ! 0 9 refl $ dead ! 0 8 refl $ move ! (0 ∷ 8 ∷ []) $ free1 ! $ move ! (0 ∷ 7 ∷ []) $ free1 ! $
             free0 ! $
-            by ! (exits r u nx is (under-end (x .now) (y .now) m a (bitsOf from) (z .now) i (bitsOf r) nx h (omega (arith, p))) (h .long))
+            -- [the notes; their token; the list's; the distances'; the list; the distances]
+            rewrite ! 0 (λ (n : ℕ). ‵ (Area nx n)) (h .long) refl $
+            nothing ! $ move ! (2 ∷ 0 ∷ []) $ join ! $ move ! (3 ∷ 0 ∷ []) $ join ! $ move ! (2 ∷ 0 ∷ []) $ join ! $ has-set ! r u is $
+            -- [the result; the tokens; the notes; the list; the distances]
+            move ! (1 ∷ 3 ∷ 4 ∷ 2 ∷ []) $ exits m a from _ m-fits a-fits from-is !
+            (under-end (x .now) (y .now) m a (bitsOf from) (z .now) i (bitsOf r) nx h (omega (arith, p)))
+            (ends-at 𝓤 H A scan.ended stayed (scan.clauses 𝓤 H A mem run) W entry u r
+            (tt, (tt, (tt, (tt, (tt, (nx, tt)))))) (tt, (tt, (tt, (tt, (tt, (h .long, tt)))))))
 
         one : (n : ℕ) (st : State) (X : SProp 𝓤) → P n st → ((j : ℕ) (st′ : State) → j < n → P j st′ → ent 𝓤 (AtState st′) X)
             → ent 𝓤 (AtState st) (Turn X)

@@ -1,6 +1,6 @@
 -- `chain::scan_listed` meets its contract: a walk of its MIR, by hand. The list is copied to a local, which is lent as a `&[Bound]` to `scan`
 -- for a lifetime μ, and its memory is freed. The notes go to `scan` at their own lifetime, share and ghost name.
-use mathlib.Core.Path.{_≡_, refl}
+use mathlib.Core.Path.{refl}
 use Prim.Native.Nat.{ℕ, _<_, _^_}
 use mathlib.Core.List.{List, [], _∷_}
 use lib.ListN.{length}
@@ -19,7 +19,7 @@ use ghost.Atoms.{Atoms}
 use contract.Lifetimes.{Lfts}
 use contract.Monad.{Fun}
 use contract.Running.{givenOf}
-use types.Kit.{Given, Item, ‵, raw, _⊛_, ⋆, _$_, _∵_, !, qed, by, move, keep, use1, use3, split, join, fsplit, fjoin, feqL, suffices, frame, done}
+use types.Kit.{Given, Item, ‵, raw, _⊛_, ⋆, _$_, _∵_, !, qed, move, keep, use1, use3, split, join, fsplit, feqL, frame, done}
 use types.Part.{agg, whole, sub, look-in}
 use types.Run.{look, init, stop, hop, fld, from as place′, load, lit, addr, of-opd, and-then, no-more, land, returns}
 use types.Run.{enter, alloc1, alloc0, params1, pass1, pass0, free0}
@@ -29,10 +29,10 @@ use denote.Laws.{Is, shows}
 use denote.Plain.{uint-vals, uint-tells}
 use denote.Builtin.{u16, usize, i32}
 use denote.Ref.{RefT}
-use denote.Slice.{sliceVal, ShrSlice, MutSlice, Room, finally, slice-vals, shr-slice-tells, mut-slice-tells, shr-slice-copy}
+use denote.Slice.{sliceVal, ShrSlice, MutSlice, Room, slice-vals, shr-slice-tells, mut-slice-tells, shr-slice-copy}
 use denote.Array.{array-vals, array-tells}
 use denote.Signature.{plain}
-use denote.Steps.{nothing, peeks}
+use denote.Steps.{peeks}
 use denote.Struct.Laws as LL
 use denote.Triple.Entry.{Args, Vals, onEntry}
 use denote.Triple.Spec.{tripleOf}
@@ -51,7 +51,7 @@ use Rattle.chain.specs.declared.Bound.{Bound}
 use Rattle.chain.specs.Marks.{Scanning, Scanned}
 use Rattle.chain.proofs.Bound as T
 use Rattle.chain.proofs.Bound.Laws as T′
-use Rattle.chain.proofs.ByHand.{word-typed, slice-typed, set-typed, entries-typed, held, sets, dead, skip, with-word, with-set, with-entries}
+use Rattle.chain.proofs.ByHand.{word-typed, slice-typed, set-typed, entries-typed, held, sets, dead, skip, has-entries, passes, exits}
 use Rattle.chain.proofs.ByHand.{Entries, in-local, lends-list, list-back, answered, by-walk, stay-word, stay-set, stay-entries}
 use Rattle.chain.proofs.scan as scan
 use Rattle.chain.proofs.scan.Symbol as scan-def
@@ -149,25 +149,7 @@ module _ {M : Type 1} (𝓤 : URA M) (H : Heap 𝓤) (A : Atoms 𝓤) (W : Given
         → ent 𝓤 (⋆ 𝓤 H A (with-μ μ ∷ (‵ (Slice l μ δ) ⊛ ‵ Far) ∷ ‵ Area ∷ [])) (Scans .pre (to-scan l μ δ))
     goes asks l μ δ =
         qed W (with-μ μ ∷ (‵ (Slice l μ δ) ⊛ ‵ Far) ∷ ‵ Area ∷ []) ∵ says ! asks $ frame ! $ split ! $
-        -- [the slice; the distances; the notes]
-        nothing ! $ move ! (3 ∷ 0 ∷ []) $ fjoin ! $
-        with-set ! from _ from-is $
-        with-word ! a a-fits $ move ! (2 ∷ 0 ∷ []) $ fjoin ! $
-        with-word ! m m-fits $ move ! (1 ∷ 0 ∷ []) $ fjoin ! $ done !
-
-    -- what is had at the end
-    abbrev Left : EventSet → Val → List ℕ → List (Item 𝓤)
-    Left r w zs = tokens ∷ ‵ (finally u16 (z .name) zs) ∷ ‵ Far ∷ ‵ (S.the-row .own r (w ∷ [])) ∷ []
-
-    exits : (r : EventSet) (w : Val) (zs : List ℕ) → Done r zs → length zs ≡ length (z .now) → ent 𝓤 (⋆ 𝓤 H A (Left r w zs)) (Walk .post entry w)
-    exits r w zs e l =
-        qed W (Left r w zs) ∵
-        suffices ! _ (ends-at 𝓤 H A listed.ended stayed (listed.clauses 𝓤 H A mem run) W entry w r
-        (tt, (tt, (tt, (tt, (tt, (zs, tt)))))) (tt, (tt, (tt, (tt, (tt, (l, tt))))))) $ says ! e $ frame ! $
-        -- [the last notes; the distances; the result]
-        nothing ! $ move ! (1 ∷ 0 ∷ []) $ fjoin ! $ with-set ! from _ from-is $
-        with-word ! a a-fits $ move ! (1 ∷ 0 ∷ []) $ fjoin ! $
-        with-word ! m m-fits $ with-entries ! bs u bs-is $ frame ! $ done !
+        passes m a from _ m-fits a-fits from-is ! $ done !
 
     module _ (𝓣 : Tables 𝓤 H) (known : Triple 𝓤 (𝓣 .C #chain·scan) Scans) where
       walk : Room i32 (length (y .now)) → Room u16 (length (z .now)) → Asks
@@ -212,7 +194,9 @@ module _ {M : Type 1} (𝓤 : URA M) (H : Heap 𝓤) (A : Atoms 𝓤) (W : Given
           returns ! (look ! 28 refl) $
           dead ! 28 28 refl $ dead ! 26 26 refl $ dead ! 24 24 refl $ dead ! 22 22 refl $ dead ! 20 20 refl $ dead ! 18 18 refl $ dead ! 16 16 refl $
           dead ! 0 14 refl $ dead ! 12 12 refl $ dead ! 10 10 refl $ dead ! 8 8 refl $ dead ! 6 6 refl $ free0 ! $
-          keep ! (0 ∷ 2 ∷ 5 ∷ 1 ∷ []) $ by ! (exits r w (zs .1 .1 .1 .1 .1 .0) e l)))))))))))))))))))
+          keep ! (0 ∷ 5 ∷ 2 ∷ 1 ∷ []) $ has-entries ! bs u bs-is $ move ! (1 ∷ []) $ exits m a from _ m-fits a-fits from-is ! e
+          (ends-at 𝓤 H A listed.ended stayed (listed.clauses 𝓤 H A mem run) W entry w r
+          (tt, (tt, (tt, (tt, (tt, (zs .1 .1 .1 .1 .1 .0, tt)))))) (tt, (tt, (tt, (tt, (tt, (l, tt)))))))))))))))))))))))))
 
   listed-walks : (𝓣 : Tables 𝓤 H) → Triple 𝓤 (𝓣 .C #chain·scan) Scans
       → Walks 𝓤 H A listed.ended stayed (WpFn 𝓤 H (𝓣 .C) (𝓣 .Λ) code.function) (listed.clauses 𝓤 H A mem run)

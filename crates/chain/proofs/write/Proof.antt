@@ -3,14 +3,14 @@ use mathlib.Core.Path.{_≡_, refl}
 use Prim.Native.Nat.{_-_, _≤_, _<_}
 use native.Mathlib.Omega.{arith}
 use lib.ListN.{length, length-set}
-use Rattle.eventset.specs.Sets.{WIDTH}
+use Rattle.meaning.specs.Plan.{MOST-EVENTS}
 use Rattle.chain.proofs.Codes.{Putting, put-start, put-step, put-end}
 use Rattle.chain.proofs.write.Statement.{statement}
 use Rattle.chain.proofs.write.Tie as tie
 
 abbrev Inv-loop : tie.InvT-loop
 Inv-loop notes from out₀ count e₀ steps₀ out e steps =
-    (e < WIDTH) × (steps ≤ count) × (length out ≡ length out₀) × Putting notes from count out₀ steps e out
+    (e < MOST-EVENTS) × (steps ≤ count) × (length out ≡ length out₀) × Putting notes from count out₀ steps e out
 
 abbrev μ-loop : tie.MeasureT-loop
 μ-loop notes from out₀ count e₀ steps₀ out e steps = count - steps
