@@ -70,7 +70,7 @@ level-line-requires c κs =
     let turn = c .before .before in
     let l = turn .before in
     let w = written l in
-    (omega (arith, w .few, w .going .long, start l .pre .0, l .loop .inv .0, turn .loop-test .taken), small turn)
+    (omega (arith, w .few, w .going .long, start l .pre .0, l .loop .inv .0, turn .loop-test .taken), omega (arith, small turn))
 
 wish-of-requires : tie.Need-wish-of-requires Inv-loop μ-loop
 wish-of-requires c κs = search needs
