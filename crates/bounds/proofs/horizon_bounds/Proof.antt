@@ -68,7 +68,10 @@ loop-again c =
     )
 
 returns : tie.Need-returns Inv-loop μ-loop
-returns c = let e : c .before .loop .e ≡ c .before .before .before .args .n = omega (arith, c .before .loop .inv .1, c .loop-test .left) in rw e at (c .before .loop .inv .2)
+returns c =
+    let l = c .before in
+    let e : l .loop .e ≡ l .before .before .args .n = omega (arith, l .loop .inv .1, c .loop-test .left) in
+    rw e at (l .loop .inv .2)
 
 pub horizon-bounds-spec : {M : Type 1} → statement M
 horizon-bounds-spec =
