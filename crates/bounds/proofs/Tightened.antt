@@ -1,6 +1,6 @@
 -- Distances with bounds added one after the other, each where some timetable is left: they stay closed and within the horizon, they stand for
 -- the rows of times that hold those bounds too, and each entry stays the weight of a walk. By induction over the number of bounds that were added.
-use mathlib.Core.Path.{_≡_, refl}
+use mathlib.Core.Path.{_≡_, refl, sym, subst}
 use mathlib.Core.Logic.{_↔_}
 use mathlib.Core.List.{List, [], _∷_, _++_, map-append, List·Memᴰ, List·Memᴰ·head, Memᴰ·append-left, Memᴰ·append-right}
 use Prim.Native.Nat.{ℕ, zero, suc, _+_, _-_, _≤_, _<_}
@@ -88,6 +88,7 @@ module _ (list : List Entry) (n : ℕ) (D : Distances) (from : ℕ) where
   tightened-walks zero s W = let e : from + 0 ≡ from = omega arith in rw e W
   tightened-walks (suc m) s W =
       let β = boundAt list (from + m) in
-      rw (add-suc, listed-next list (from + m) (omega (arith, s .inside)))
+      let next : listed list (from + suc m) ≡ listed list (from + m) ++ (β ∷ []) = rw add-suc (listed-next list (from + m) (omega (arith, s .inside))) in
+      subst (λ bs. Walks n (λ b. List·Memᴰ b bs) (after (suc m))) (sym next)
       (walks-add (tightened-closed m (fewer s)) (walks-wider (λ b i. Memᴰ·append-left (β ∷ []) i) (tightened-walks m (fewer s) W))
       (last-fit s .start) (last-fit s .end) (Memᴰ·append-right (listed list (from + m)) (List·Memᴰ·head refl)) (added-last m) (s .met m (omega arith)))

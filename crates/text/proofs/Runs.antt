@@ -1,10 +1,10 @@
 -- A run of digits: one more of them, how large the value is, and where reading stops, as rewriting by the tests of the code.
 use Prim.Native.Nat.{ℕ, suc, _+_, _-_, _*_, _^_, _≤_, _<_}
-use mathlib.Core.Path.{_≡_}
+use mathlib.Core.Path.{_≡_, refl, sym, _∙_}
 use mathlib.Core.Bool.{true, false, cond, not}
 use mathlib.Core.Option.{Option, none, some}
 use mathlib.Core.List.{List}
-use native.Mathlib.Nat.{pow-le-pow-right}
+use native.Mathlib.Nat.{le-refl, sub-self, pow-le-pow-right}
 use native.Mathlib.Omega.{arith}
 use borrow.Author.Tests.{le-leb, lt-leb, lt-ltb, le-ltb, eq-eqb, ne-eqb}
 use lib.ListN.{length, getD}
@@ -14,42 +14,81 @@ use Rattle.text.specs.Number.{runStop, digitsStop}
 use Rattle.meaning.proofs.Slices.{slice-step}
 
 module _ (s : List ℕ) (i e : ℕ) (h : i < e) (k : e ≤ length s) (v : ℕ) where
-  pub run-low : getD s i 0 < 48 → runFrom v (slice i e s) ≡ none
+  run-low : getD s i 0 < 48 → runFrom v (slice i e s) ≡ none
   run-low q = rw (slice-step s i e h k, lt-leb 48 (getD s i 0) q)
 
-  pub run-high : 48 ≤ getD s i 0 → 57 < getD s i 0 → runFrom v (slice i e s) ≡ none
+  run-high : 48 ≤ getD s i 0 → 57 < getD s i 0 → runFrom v (slice i e s) ≡ none
   run-high p q = rw (slice-step s i e h k, le-leb 48 (getD s i 0) p, lt-leb (getD s i 0) 57 q)
 
-  pub run-more : 48 ≤ getD s i 0 → getD s i 0 ≤ 57 → runFrom v (slice i e s) ≡ runFrom (v * 10 + (getD s i 0 - 48)) (slice (i + 1) e s)
+  run-more : 48 ≤ getD s i 0 → getD s i 0 ≤ 57 → runFrom v (slice i e s) ≡ runFrom (v * 10 + (getD s i 0 - 48)) (slice (i + 1) e s)
   run-more p q = rw (slice-step s i e h k, le-leb 48 (getD s i 0) p, le-leb (getD s i 0) 57 q)
 
 module _ (s : List ℕ) (i e : ℕ) (h : i < e) (k : e ≤ length s) where
-  pub stop-low : getD s i 0 < 48 → runStop (slice i e s) ≡ 0
+  stop-low : getD s i 0 < 48 → runStop (slice i e s) ≡ 0
   stop-low q = rw (slice-step s i e h k, lt-leb 48 (getD s i 0) q)
 
-  pub stop-high : 48 ≤ getD s i 0 → 57 < getD s i 0 → runStop (slice i e s) ≡ 0
+  stop-high : 48 ≤ getD s i 0 → 57 < getD s i 0 → runStop (slice i e s) ≡ 0
   stop-high p q = rw (slice-step s i e h k, le-leb 48 (getD s i 0) p, lt-leb (getD s i 0) 57 q)
 
-  pub stop-more : 48 ≤ getD s i 0 → getD s i 0 ≤ 57 → runStop (slice i e s) ≡ suc (runStop (slice (i + 1) e s))
+  stop-more : 48 ≤ getD s i 0 → getD s i 0 ≤ 57 → runStop (slice i e s) ≡ suc (runStop (slice (i + 1) e s))
   stop-more p q = rw (slice-step s i e h k, le-leb 48 (getD s i 0) p, le-leb (getD s i 0) 57 q)
 
-pub stop-end : (s : List ℕ) (i e : ℕ) → i ≡ e → runStop (slice i e s) ≡ 0
+stop-end : (s : List ℕ) (i e : ℕ) → i ≡ e → runStop (slice i e s) ≡ 0
 stop-end s i e q = rw (q, slice-empty e s)
 
-pub run-end : (s : List ℕ) (i e v : ℕ) → i ≡ e → runFrom v (slice i e s) ≡ some v
+run-end : (s : List ℕ) (i e v : ℕ) → i ≡ e → runFrom v (slice i e s) ≡ some v
 run-end s i e v q = rw (q, slice-empty e s)
 
 -- one more digit
-pub ten-more : (v d at i : ℕ) → at ≤ i → v < 10 ^ (i - at) → d ≤ 9 → v * 10 + d < 10 ^ (i + 1 - at)
+ten-more : (v d at i : ℕ) → at ≤ i → v < 10 ^ (i - at) → d ≤ 9 → v * 10 + d < 10 ^ (i + 1 - at)
 ten-more v d at i g h k =
     let e : i + 1 - at ≡ suc (i - at) = omega arith in
     rw e (omega arith)
 
--- at most six digits before: the value with one more is below 10 ^ 7
-pub ten-small : (v at i : ℕ) → i < at + 7 → v < 10 ^ (i - at) → v < 1000000
-ten-small v at i g h =
-    let k : i - at ≤ 6 = omega arith in
-    omega (arith, pow-le-pow-right {n = 10} (omega arith) k)
+-- ---- a run while it is read
+
+-- before place i stand digits of the value v; the bytes from i on say what the whole run says, and stop where it stops
+pub record Swept (s : List ℕ) (at e v i : ℕ) : Type 0 where
+  pub from : at ≤ i
+  pub to : i ≤ e
+  pub size : v < 10 ^ (i - at)
+  pub same-value : runFrom v (slice i e s) ≡ runFrom 0 (slice at e s)
+  pub same-stop : i + runStop (slice i e s) ≡ at + runStop (slice at e s)
+
+-- what is promised of a run
+abbrev Ran : List ℕ → ℕ → ℕ → Option ℕ → ℕ → Type 0
+Ran s at e value place = (value ≡ runFrom 0 (slice at e s)) × (place ≡ at + runStop (slice at e s))
+
+pub swept-none : (s : List ℕ) (at e : ℕ) → at ≤ e → Swept s at e 0 at
+swept-none s at e h = record { from = le-refl at; to = h; size = rw sub-self (omega arith); same-value = refl; same-stop = refl }
+
+module _ {s : List ℕ} {at e v i : ℕ} (r : Swept s at e v i) where
+  -- at most six digits before: the value with one more is below 10 ^ 7
+  pub swept-small : i < e → e ≤ at + 7 → v < 1000000
+  swept-small h g =
+      let k : i - at ≤ 6 = omega arith in
+      omega (arith, pow-le-pow-right {n = 10} (omega arith) k, r .size)
+
+  pub swept-low : i < e → e ≤ length s → getD s i 0 < 48 → Ran s at e none i
+  swept-low h k q = (sym (run-low s i e h k v q) ∙ r .same-value, omega (arith, r .same-stop, stop-low s i e h k q))
+
+  pub swept-high : i < e → e ≤ length s → 48 ≤ getD s i 0 → 57 < getD s i 0 → Ran s at e none i
+  swept-high h k p q = (sym (run-high s i e h k v p q) ∙ r .same-value, omega (arith, r .same-stop, stop-high s i e h k p q))
+
+  pub swept-more : i < e → e ≤ length s → 48 ≤ getD s i 0 → getD s i 0 ≤ 57 → Swept s at e (v * 10 + (getD s i 0 - 48)) (i + 1)
+  swept-more h k p q =
+      record {
+        from = omega (arith, r .from);
+        to = omega arith;
+        size = ten-more v (getD s i 0 - 48) at i (r .from) (r .size) (omega arith);
+        same-value = sym (run-more s i e h k v p q) ∙ r .same-value;
+        same-stop = omega (arith, r .same-stop, stop-more s i e h k p q);
+      }
+
+  pub swept-end : e ≤ i → Ran s at e (some v) e
+  swept-end l =
+      let q : i ≡ e = omega (arith, r .to) in
+      (sym (run-end s i e v q) ∙ r .same-value, omega (arith, r .same-stop, stop-end s i e q))
 
 -- ---- digits: the value and the stop, by the length and the first byte
 

@@ -1,7 +1,7 @@
 -- `forms::at_lines` meets its contract: the lines of the times passed are written, and those of the others are left.
 use mathlib.Core.Path.{_≡_, refl, ap}
 use mathlib.Core.List.{[], _∷_}
-use Prim.Native.Nat.{_+_, _*_, _-_, _≤_}
+use Prim.Native.Nat.{_+_, _*_, _-_, _≤_, _<_}
 use native.Mathlib.Omega.{arith}
 use borrow.Author.Needs.{needs}
 use lib.IntN.{pos}
@@ -25,8 +25,11 @@ abbrev μ-loop : tie.MeasureT-loop
 abbrev start : tie.At-loop Inv-loop μ-loop → tie.Start Inv-loop μ-loop
 start c = c .before .before
 
+abbrev turned : tie.After-t13 Inv-loop μ-loop → tie.In-loop Inv-loop μ-loop
+turned c = c .before .before
+
 abbrev looped : tie.After-t13 Inv-loop μ-loop → tie.At-loop Inv-loop μ-loop
-looped c = c .before .before .before
+looped c = turned c .before
 
 -- the event and its time
 row : (c : tie.After-t13 Inv-loop μ-loop) →
@@ -42,13 +45,13 @@ loop-holds : tie.Need-loop-holds Inv-loop μ-loop
 loop-holds c = (omega arith, printing-start _ _ _)
 
 to-i64-requires : tie.Need-to-i64-requires Inv-loop μ-loop
-to-i64-requires c κs = search needs
+to-i64-requires c κs = omega (arith, c .loop-test .taken, start (c .before) .pre .2)
 
 mul-t11 : tie.Need-mul-t11 Inv-loop μ-loop
-mul-t11 c = search needs
+mul-t11 c = let turn = c .before in omega (arith, turn .loop-test .taken, start (turn .before) .pre .2)
 
 shared-slice-copy-out-t13 : tie.Need-shared-slice-copy-out-t13 Inv-loop μ-loop
-shared-slice-copy-out-t13 c = search needs
+shared-slice-copy-out-t13 c = let turn = c .before in omega (arith, turn .loop-test .taken, start (turn .before) .pre .1)
 
 slice-aggregate-put-line : tie.Need-slice-aggregate-put-line Inv-loop μ-loop
 slice-aggregate-put-line c = search needs
@@ -61,23 +64,31 @@ put-line-requires c κs =
     let at-time = c .before .before .before in
     let l = looped at-time in
     let inv = l .loop .inv .1 in
-    line-room (bytes "at") (row at-time) LINE-ROOM tt _ _ (omega (arith, inv .few, inv .going .long, start l .pre .0))
+    line-room (bytes "at") (row at-time) LINE-ROOM tt _ _
+    (omega (arith, inv .few, inv .going .long, start l .pre .0, turned at-time .loop-test .taken))
+
+abbrev put-after : tie.After-put-line Inv-loop μ-loop → tie.After-t13 Inv-loop μ-loop
+put-after c = c .before .before .before .before
+
+-- an event below n
+event : (c : tie.After-slice-known2 Inv-loop μ-loop) → let l = looped (put-after (c .before .before)) in l .loop .e < start l .args .n
+event c = turned (put-after (c .before .before)) .loop-test .taken
 
 add-e : tie.Need-add-e Inv-loop μ-loop
-add-e c = omega arith
+add-e c = omega (arith, event c, start (looped (put-after (c .before .before))) .pre .2)
 
 loop-less : tie.Need-loop-less Inv-loop μ-loop
-loop-less c = omega arith
+loop-less c = omega (arith, event c)
 
 loop-again : tie.Need-loop-again Inv-loop μ-loop
 loop-again c =
     let at-put = c .before .before in
-    let at-time = at-put .before .before .before .before in
+    let at-time = put-after at-put in
     let l = looped at-time in
     let s = start l in
     let put = line-put (bytes "at") (row at-time) LINE-ROOM tt (at-put .put-line .ensures) in
-    let more = times-more (s .args .times .now) (s .args .n) (l .loop .e) (s .pre .1) (omega arith) in
-    (omega arith, printing-then (l .loop .inv .1) (LINE-ROOM * (l .loop .e + 1)) (omega arith) more put)
+    let more = times-more (s .args .times .now) (s .args .n) (l .loop .e) (s .pre .1) (event c) in
+    (omega (arith, event c), printing-then (l .loop .inv .1) (LINE-ROOM * (l .loop .e + 1)) (omega arith) more put)
 
 same-length : tie.Need-same-length Inv-loop μ-loop
 same-length c = c .before .loop .inv .1 .going .long
@@ -86,7 +97,7 @@ returns : tie.Need-returns Inv-loop μ-loop
 returns c =
     let l = c .before in
     let s = start l in
-    let e : l .loop .e ≡ s .args .n = omega arith in
+    let e : l .loop .e ≡ s .args .n = omega (arith, l .loop .inv .0, c .loop-test .left) in
     printing-end (rw e at (l .loop .inv .1)) (s .pre .0) (ap (atLines (s .args .n)) (left-none (s .args .times .now) (s .args .n) (s .pre .1)))
 
 pub at-lines-spec : {M : Type 1} → statement M

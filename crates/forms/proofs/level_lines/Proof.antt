@@ -41,6 +41,10 @@ start c = c .before .before .before
 few : (s : tie.Start Inv-loop μ-loop) → s .args .t3 .count ≤ MOST-RECORDS
 few s = let p = s .pre .2 in omega (arith, p .1 .count, p .2 .few)
 
+-- the number of the record at hand
+small : (c : tie.In-loop Inv-loop μ-loop) → c .before .loop .k < MOST-RECORDS
+small c = let l = c .before in omega (arith, few (start l), l .loop .inv .0, c .loop-test .taken)
+
 -- what is written, for the plan that there is
 written : (c : tie.At-loop Inv-loop μ-loop) →
     let s = start c in
@@ -51,25 +55,31 @@ loop-holds : tie.Need-loop-holds Inv-loop μ-loop
 loop-holds c = (omega arith, omega arith, omega arith, λ p q g. (omega arith, printing-start _ _ _))
 
 mul-count : tie.Need-mul-count Inv-loop μ-loop
-mul-count c = omega (arith, few (start (c .before)))
+mul-count c = omega (arith, small c)
 
 element-copy-out-count : tie.Need-element-copy-out-count Inv-loop μ-loop
-element-copy-out-count c = omega (arith, few (start (c .before)), start (c .before) .pre .2 .1 .size)
+element-copy-out-count c = omega (arith, small c, start (c .before) .pre .2 .1 .size)
 
 shared-slice-read-level-line : tie.Need-shared-slice-read-level-line Inv-loop μ-loop
-shared-slice-read-level-line c = omega (arith, few (start (c .before .before .before)))
+shared-slice-read-level-line c =
+    let turn = c .before .before in
+    omega (arith, small turn, turn .before .loop .inv .2, start (turn .before) .pre .1)
 
 level-line-requires : tie.Need-level-line-requires Inv-loop μ-loop
 level-line-requires c κs =
-    let l = c .before .before .before in
+    let turn = c .before .before in
+    let l = turn .before in
     let w = written l in
-    (omega (arith, w .few, w .going .long, start l .pre .0), omega (arith, few (start l)))
+    (omega (arith, w .few, w .going .long, start l .pre .0, l .loop .inv .0, turn .loop-test .taken), omega (arith, small turn))
 
 wish-of-requires : tie.Need-wish-of-requires Inv-loop μ-loop
 wish-of-requires c κs = search needs
 
+abbrev turned : tie.After-level-line Inv-loop μ-loop → tie.In-loop Inv-loop μ-loop
+turned c = c .before .before .before
+
 abbrev looped : tie.After-level-line Inv-loop μ-loop → tie.At-loop Inv-loop μ-loop
-looped c = c .before .before .before .before
+looped c = turned c .before
 
 abbrev row : (c : tie.At-loop Inv-loop μ-loop) → Record
 row c = rowAt (start c .args .t3) (c .loop .k)
@@ -79,16 +89,14 @@ wish-small c = omega (arith, c .wish-of .ensures, wish-most (row (looped (c .bef
 
 add-w : tie.Need-add-w Inv-loop μ-loop
 add-w c =
-    let l = looped (c .before .before .before) in
-    omega (arith, wish-small c, few (start l))
+    let turn = turned (c .before .before .before) in
+    omega (arith, wish-small c, small turn, turn .before .loop .inv .2)
 
 add-k : tie.Need-add-k Inv-loop μ-loop
-add-k c =
-    let l = looped (c .before .before .before) in
-    omega (arith, few (start l))
+add-k c = omega (arith, small (turned (c .before .before .before)))
 
 loop-less : tie.Need-loop-less Inv-loop μ-loop
-loop-less c = omega arith
+loop-less c = omega (arith, turned (c .before .before .before) .loop-test .taken)
 
 -- one record more
 further : (c : tie.After-wish-of Inv-loop μ-loop) →
@@ -102,7 +110,7 @@ further c p q g =
     let s = start l in
     let k = l .loop .k in
     let inv = l .loop .inv .3 p q g in
-    let h : k < length (p .records) = omega (arith, q .count) in
+    let h : k < length (p .records) = omega (arith, q .count, l .loop .inv .0, turned line .loop-test .taken) in
     let room : wishes p ≤ length (s .args .levels .now) = omega (arith, wishes-few (p .records), g .few, s .pre .1) in
     let more = level-more (s .args .levels .now) (wishes p) k (l .loop .w) (row l .count) (p .records) room h
     (g .each k h .levelled) (ap (λ (r : Record). r .count) (held-row q k)) (inv .0) in
@@ -110,8 +118,9 @@ further c p q g =
 
 loop-again : tie.Need-loop-again Inv-loop μ-loop
 loop-again c =
-    let l = looped (c .before .before .before) in
-    (omega arith, omega arith, omega (arith, wish-small c), further c)
+    let turn = turned (c .before .before .before) in
+    let inv = turn .before .loop .inv in
+    (inv .0, omega (arith, turn .loop-test .taken), omega (arith, wish-small c, inv .2), further c)
 
 same-length : tie.Need-same-length Inv-loop μ-loop
 same-length c = written (c .before) .going .long
@@ -122,7 +131,7 @@ returns c =
     let s = start l in
     let h = s .args .t3 in
     λ p q g.
-    let e : l .loop .k ≡ length (p .records) = omega (arith, q .count) in
+    let e : l .loop .k ≡ length (p .records) = omega (arith, q .count, l .loop .inv .0, l .loop .inv .1, c .loop-test .left) in
     let f : length (p .records) ≡ h .count = omega (arith, q .count) in
     let done = rw e at (l .loop .inv .3 p q g .1) in
     let left = drop (l .loop .w) (take (wishes p) (s .args .levels .now)) in

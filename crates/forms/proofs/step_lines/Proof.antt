@@ -1,7 +1,7 @@
 -- `forms::step_lines` meets its contract: the lines of the codes passed are written, for every plan that memory holds.
 use mathlib.Core.Path.{_≡_, ap}
 use mathlib.Core.List.{List}
-use Prim.Native.Nat.{ℕ, _+_, _*_, _-_, _≤_}
+use Prim.Native.Nat.{ℕ, _+_, _*_, _-_, _≤_, _<_}
 use native.Mathlib.Omega.{arith}
 use borrow.Author.Needs.{needs}
 use lib.ListN.{take, drop}
@@ -52,18 +52,27 @@ step-of-requires c κs =
 
 put-step-requires : tie.Need-put-step-requires Inv-loop μ-loop
 put-step-requires c κs =
-    let l = c .before .before .before .before in
+    let turn = c .before .before .before in
+    let l = turn .before in
     let w = written l in
-    omega (arith, w .few, w .going .long, start l .pre .0)
+    omega (arith, w .few, w .going .long, start l .pre .0, turn .loop-test .taken)
 
-add-i : tie.Need-add-i Inv-loop μ-loop
-add-i c = omega arith
-
-loop-less : tie.Need-loop-less Inv-loop μ-loop
-loop-less c = omega arith
+abbrev turned : tie.After-step-of Inv-loop μ-loop → tie.In-loop Inv-loop μ-loop
+turned c = c .before .before .before
 
 abbrev looped : tie.After-step-of Inv-loop μ-loop → tie.At-loop Inv-loop μ-loop
-looped c = c .before .before .before .before
+looped c = turned c .before
+
+-- a step of the chain
+step : (c : tie.After-slice-known2 Inv-loop μ-loop) →
+    let l = looped (c .before .before .before) in l .loop .i < start l .args .steps
+step c = turned (c .before .before .before) .loop-test .taken
+
+add-i : tie.Need-add-i Inv-loop μ-loop
+add-i c = omega (arith, step c, start (looped (c .before .before .before)) .fits .steps)
+
+loop-less : tie.Need-loop-less Inv-loop μ-loop
+loop-less c = omega (arith, step c)
 
 -- one step more
 further : (c : tie.After-slice-known2 Inv-loop μ-loop) →
@@ -76,12 +85,12 @@ further c p q =
     let l = looped (put .before) in
     let s = start l in
     let i = l .loop .i in
-    let more = steps-more p (s .args .chain .now) (s .args .steps) i (s .pre .1) (omega arith) in
+    let more = steps-more p (s .args .chain .now) (s .args .steps) i (s .pre .1) (step c) in
     printing-then (l .loop .inv .1 p q) (STEP-ROOM * (i + 1)) (omega arith) more
     (put-as (put .put-step .ensures) (ap (line (bytes "step")) (put .before .step-of .ensures p q)))
 
 loop-again : tie.Need-loop-again Inv-loop μ-loop
-loop-again c = (omega arith, further c)
+loop-again c = (omega (arith, step c), further c)
 
 same-length : tie.Need-same-length Inv-loop μ-loop
 same-length c = written (c .before) .going .long
@@ -90,7 +99,7 @@ returns : tie.Need-returns Inv-loop μ-loop
 returns c =
     let l = c .before in
     let s = start l in
-    let e : l .loop .i ≡ s .args .steps = omega arith in
+    let e : l .loop .i ≡ s .args .steps = omega (arith, l .loop .inv .0, c .loop-test .left) in
     λ p q. printing-end (rw e at (l .loop .inv .1 p q)) (s .pre .0) (ap (stepLines p) (left-none (s .args .chain .now) (s .args .steps) (s .pre .1)))
 
 pub step-lines-spec : {M : Type 1} → statement M
