@@ -1,16 +1,16 @@
 -- How many events: each event of a table is one of MOST-EVENTS, each of these fits into a set, and bounds of the list that enter no event
--- twice are at most as many as the events, since different numbers below n are at most n.
-use mathlib.Core.Path.{ap, _∙_, subst}
-use mathlib.Core.List.{List, List·Memᴰ, Memᴰ·of-map}
+-- twice are at most as many as the events.
+use mathlib.Core.Path.{subst}
+use mathlib.Core.List.{List, List·Memᴰ}
 use Prim.Native.Nat.{ℕ, _≤_, _<_}
 use native.Mathlib.Omega.{arith}
 use lib.Dec.{T}
-use lib.ListN.{length, length-map}
+use lib.ListN.{length}
 use lib.IntN.{ℤ}
 use Rattle.eventset.specs.Sets.{WIDTH}
 use Rattle.meaning.specs.Plan.{MOST-EVENTS}
 use Rattle.meaning.specs.Bounds.{Bound, distinct, ends}
-use Rattle.meaning.proofs.Pigeons.{pigeons}
+use Rattle.meaning.proofs.Pigeons.{steps-most}
 use Rattle.chain.specs.declared.Bound.{Bound as Entry}
 use Rattle.chain.specs.Clash.{listed, Table, Given}
 use Rattle.chain.proofs.Lead.{place-of}
@@ -25,10 +25,7 @@ fits h = omega arith
 
 pub few : {list : List Entry} {n m : ℕ} → Given list n m → (bs : List Bound) → ((x : Bound) → List·Memᴰ x bs → List·Memᴰ x (listed list m))
     → T (distinct (ends bs)) → length bs ≤ n
-few {list} {n} {m} given bs known once = omega (arith, length-map bs (λ b. b .end), pigeons n (ends bs) once below)
+few {list} {n} {m} given bs known once = steps-most n bs below once
   where
-    below : (v : ℕ) → List·Memᴰ v (ends bs) → v < n
-    below v i =
-        let b = Memᴰ·of-map (λ b. b .end) bs i in
-        let p = place-of list m (b .0) (known (b .0) (b .1)) in
-        subst (λ (x : ℕ). x < n) (ap (λ (x : Bound). x .end) (p .is) ∙ b .2) (given .fit (p .place) (p .low) .end)
+    below : (x : Bound) → List·Memᴰ x bs → x .end < n
+    below x i = let p = place-of list m x (known x i) in subst (λ (y : Bound). y .end < n) (p .is) (given .fit (p .place) (p .low) .end)

@@ -17,7 +17,7 @@ use Rattle.meaning.specs.Bounds.{Bound, Leads, stop, step, total, distin
 use Rattle.meaning.specs.Faultless.{WithoutFault}
 use Rattle.meaning.specs.Distances.{Distances, Clashes}
 use Rattle.meaning.proofs.Distinct.{distinct-turn}
-use Rattle.meaning.proofs.Pigeons.{pigeons, different-all, different-again}
+use Rattle.meaning.proofs.Pigeons.{steps-most, different-all, different-again}
 use Rattle.meaning.proofs.Bounds.{Given, bound-placed, timetable-holds}
 use Rattle.meaning.proofs.Walks.{leads-join, total-join, Parted, Walk, Walks}
 
@@ -108,10 +108,6 @@ two-steps {j = j} (step {b = b} {bs = bs} l) e f m = go bs l
 -- ---- a round that begins at its least event is a chain
 
 module _ {p : Plan} (w : WithoutFault p) {from : ℕ} {steps : List Bound} (l : Loop (Given p) from steps) where
-  entered-below : (bs : List Bound) → ((b : Bound) → List·Memᴰ b bs → Given p b) → (v : ℕ) → List·Memᴰ v (ends bs) → v < p .events
-  entered-below (b ∷ bs) f v (List·Memᴰ·head e) = rw e (bound-placed p w b (f b (List·Memᴰ·head refl)) .ends)
-  entered-below (b ∷ bs) f v (List·Memᴰ·tail m) = entered-below bs (λ c q. f c (List·Memᴰ·tail q)) v m
-
   pub loop-counted : length steps ≡ different (starts steps ++ ends steps)
   loop-counted = sym (different-again (starts steps) (ends steps) (starts-entered (l .closed) refl) ∙ different-all (ends steps) (l .once) ∙ length-map steps (λ b. b .end))
 
@@ -119,7 +115,7 @@ module _ {p : Plan} (w : WithoutFault p) {from : ℕ} {steps : List Bound} (l : 
   loop-two = two-steps (l .closed) refl (λ b m. bound-placed p w b (l .given b m) .apart) (l .negative)
 
   pub loop-most : length steps ≤ p .events
-  loop-most = omega (arith, pigeons (p .events) (ends steps) (l .once) (entered-below steps (l .given)), length-map steps (λ b. b .end))
+  loop-most = steps-most (p .events) steps (λ b m. bound-placed p w b (l .given b m) .ends) (l .once)
 
   pub loop-chain : ((b : Bound) → List·Memᴰ b steps → from ≤ b .start) → Chain p (map (λ b. b .code) steps)
   loop-chain h = record {

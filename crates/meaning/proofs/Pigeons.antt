@@ -1,16 +1,16 @@
--- Different numbers below n are at most n of them, and `different` counts a list without repetition whole.
+-- Different numbers below n are at most n of them, and so are bounds to different events; `different` counts a list without repetition whole.
 -- The first by taking the greatest out; the second since what stands again later is not counted.
-use mathlib.Core.Path.{_≡_, refl, ap, sym}
-use mathlib.Core.List.{List, [], _∷_, _++_, List·Memᴰ, List·Memᴰ·head, List·Memᴰ·tail, List·Memᴰ·not-nil, Memᴰ·append-right, Memᴰ·cast}
+use mathlib.Core.Path.{_≡_, refl, ap, sym, subst}
+use mathlib.Core.List.{List, [], _∷_, _++_, List·Memᴰ, List·Memᴰ·head, List·Memᴰ·tail, List·Memᴰ·not-nil, Memᴰ·append-right, Memᴰ·cast, Memᴰ·of-map}
 use Prim.Native.Nat.{ℕ, zero, suc, _≤_, _<_, zero-le}
 use native.Mathlib.Nat.{not-suc-le-zero}
 use native.Mathlib.Decide.{ℕ-discrete}
 use native.Mathlib.Omega.{arith}
 use lib.Dec.{T, not-T}
-use lib.ListN.{length}
+use lib.ListN.{length, length-map}
 use lib.Ieee.Bits.{is-true, is-false}
 use mir.Facts.{and-yes}
-use Rattle.meaning.specs.Bounds.{absent, distinct, different}
+use Rattle.meaning.specs.Bounds.{Bound, ends, absent, distinct, different}
 use Rattle.meaning.proofs.Distinct.{absent-not, distinct-head, distinct-tail, distinct-cons}
 
 -- a list with one x taken out
@@ -53,6 +53,15 @@ pigeons (suc n) xs t f =
     below : (v : ℕ) (w : Without n xs) → List·Memᴰ v (w .rest) → Dec (v ≡ n) → v < n
     below v w m (yes e) = absurd (w .gone (Memᴰ·cast (sym e) m))
     below v w m (no q) = omega (arith, f v (w .from v m))
+
+-- bounds to events below n that enter none of them twice
+pub steps-most : (n : ℕ) (bs : List Bound) → ((b : Bound) → List·Memᴰ b bs → b .end < n) → T (distinct (ends bs)) → length bs ≤ n
+steps-most n bs low once = omega (arith, length-map bs (λ b. b .end), pigeons n (ends bs) once below)
+  where
+    below : (v : ℕ) → List·Memᴰ v (ends bs) → v < n
+    below v i =
+        let b = Memᴰ·of-map (λ b. b .end) bs i in
+        subst (λ (x : ℕ). x < n) (b .2) (low (b .0) (b .1))
 
 -- ---- the number of different ones
 
