@@ -29,7 +29,8 @@ abbrev BothAt : (Bound → Type 0) → ℕ → ℕ → Type 0
 BothAt C H e = C (horizonUpper H e) × C (horizonLower e)
 
 module _ (C : Bound → Type 0) where
-  each-record : (k : ℕ) (rs : List Record) → ((i j : ℕ) → j ≡ k + i → i < length rs → Both C j (getD rs i nothing)) → (b : Bound) → List·Memᴰ b (recordBounds k rs) → C b
+  each-record : (k : ℕ) (rs : List Record) → ((i j : ℕ) → j ≡ k + i → i < length rs → Both C j (getD rs i nothing))
+      → (b : Bound) → List·Memᴰ b (recordBounds k rs) → C b
   each-record k (r ∷ rs) f b (List·Memᴰ·head e) = subst C (sym e) (f 0 k (omega arith) (omega arith) .0)
   each-record k (r ∷ rs) f b (List·Memᴰ·tail (List·Memᴰ·head e)) = subst C (sym e) (f 0 k (omega arith) (omega arith) .1)
   each-record k (r ∷ rs) f b (List·Memᴰ·tail (List·Memᴰ·tail m)) = each-record (suc k) rs (λ i j e h. f (suc i) j (omega arith) (suc-le-suc h)) b m
@@ -50,8 +51,11 @@ each-bound p C f g b m = ⊎-elim
 
 given-record : (k : ℕ) (rs : List Record) (i j : ℕ) → j ≡ k + i → i < length rs → Both (λ b. List·Memᴰ b (recordBounds k rs)) j (getD rs i nothing)
 given-record k [] i j e h = absurd (not-suc-le-zero h)
-given-record k (r ∷ rs) zero j e h = subst (λ (x : ℕ). Both (λ b. List·Memᴰ b (recordBounds k (r ∷ rs))) x r) (omega arith) (List·Memᴰ·head refl, List·Memᴰ·tail (List·Memᴰ·head refl))
-given-record k (r ∷ rs) (suc i) j e h = let m = given-record (suc k) rs i j (omega arith) (le-of-suc-le-suc h) in (List·Memᴰ·tail (List·Memᴰ·tail (m .0)), List·Memᴰ·tail (List·Memᴰ·tail (m .1)))
+given-record k (r ∷ rs) zero j e h =
+    subst (λ (x : ℕ). Both (λ b. List·Memᴰ b (recordBounds k (r ∷ rs))) x r) (omega arith) (List·Memᴰ·head refl, List·Memᴰ·tail (List·Memᴰ·head refl))
+given-record k (r ∷ rs) (suc i) j e h =
+    let m = given-record (suc k) rs i j (omega arith) (le-of-suc-le-suc h) in
+    (List·Memᴰ·tail (List·Memᴰ·tail (m .0)), List·Memᴰ·tail (List·Memᴰ·tail (m .1)))
 
 given-event : (H e m f : ℕ) → e ≤ f → f < e + m → BothAt (λ b. List·Memᴰ b (horizonBounds H e m)) H f
 given-event H e zero f h l = absurd (omega arith)
@@ -118,7 +122,8 @@ pub record Placed (n : ℕ) (b : Bound) : Type 0 where
 
 pub bound-placed : (p : Plan) → WithoutFault p → (b : Bound) → Given p b → Placed (p .events) b
 bound-placed p w = each-bound p (Placed (p .events))
-    (λ k h. let g = w .each k h in (record { starts = g .starts; ends = g .ends; apart = g .apart }, record { starts = g .ends; ends = g .starts; apart = λ e. g .apart (sym e) }))
+    (λ k h. let g = w .each k h in
+    (record { starts = g .starts; ends = g .ends; apart = g .apart }, record { starts = g .ends; ends = g .starts; apart = λ e. g .apart (sym e) }))
     (λ e h l. (record { starts = omega arith; ends = l; apart = λ q. omega arith }, record { starts = l; ends = omega arith; apart = λ q. omega arith }))
 
 -- ---- a timetable holds the bounds
@@ -147,7 +152,10 @@ holds-timetable {p} {t} o f = record {
   where
     inside : (e : ℕ) → e < p .events → Within (pos 0) (t e) (pos (p .horizon))
     inside zero h = record { above = omega (ticks, o); below = omega (ticks, o) }
-    inside (suc e) h = record { above = omega (ticks, o, f _ (given-horizon-lower p (suc e) (omega arith) h)); below = omega (ticks, o, f _ (given-horizon-upper p (suc e) (omega arith) h)) }
+    inside (suc e) h = record {
+      above = omega (ticks, o, f _ (given-horizon-lower p (suc e) (omega arith) h));
+      below = omega (ticks, o, f _ (given-horizon-upper p (suc e) (omega arith) h));
+    }
 
 -- ---- record by record
 

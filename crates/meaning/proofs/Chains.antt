@@ -2,7 +2,8 @@
 -- matrix closes such a round; and a chain excludes every timetable, since a timetable's times would sum up to less round it.
 use mathlib.Core.Path.{_≡_, refl, ap, sym, subst, _∙_}
 use mathlib.Core.Logic.{⊎-elim}
-use mathlib.Core.List.{List, [], _∷_, _++_, map, map-append, List·Memᴰ, List·Memᴰ·head, List·Memᴰ·tail, List·Memᴰ·not-nil, List·Memᴰ·cases-cons, List·Memᴰ·append-cases, Memᴰ·append-left, Memᴰ·append-right, Memᴰ·cast}
+use mathlib.Core.List.{List, [], _∷_, _++_, map, map-append, List·Memᴰ, List·Memᴰ·head, List·Memᴰ·tail, List·Memᴰ·not-nil}
+use mathlib.Core.List.{List·Memᴰ·cases-cons, List·Memᴰ·append-cases, Memᴰ·append-left, Memᴰ·append-right, Memᴰ·cast}
 use Prim.Native.Nat.{ℕ, _≤_, _<_}
 use native.Mathlib.Nat.{le-refl}
 use native.Mathlib.Decide.{decLe}
@@ -51,9 +52,12 @@ pub loop-turn : {G : Bound → Type 0} {i v : ℕ} {bs : List Bound} → Loop G 
 loop-turn {G} {bs = bs} l p = record {
   closed = leads-join (p .goes) (p .comes);
   given = λ b m. l .given b (turned-back p m);
-  once = rw map-append (distinct-turn (ends (p .front)) (ends (p .back)) (subst (λ (x : List ℕ). T (distinct x)) (ap ends (p .whole) ∙ map-append (λ b. b .end) (p .front) (p .back)) (l .once)));
+  once = rw map-append (distinct-turn (ends (p .front)) (ends (p .back)) (subst (λ (x : List ℕ). T (distinct x)) cut (l .once)));
   negative = omega (ticks, l .negative, ap total (p .whole), total-join (p .front) (p .back), total-join (p .back) (p .front));
 }
+  where
+    cut : ends bs ≡ ends (p .front) ++ ends (p .back)
+    cut = ap ends (p .whole) ∙ map-append (λ b. b .end) (p .front) (p .back)
 
 -- where no step leaves a lesser event
 pub record Least (i j : ℕ) (bs : List Bound) : Type 0 where
@@ -62,7 +66,11 @@ pub record Least (i j : ℕ) (bs : List Bound) : Type 0 where
   pub least : (b : Bound) → List·Memᴰ b bs → event ≤ b .start
 
 pub least-of : {i j : ℕ} {bs : List Bound} → Leads i bs j → Least i j bs
-least-of {i} stop = record { event = i; parted = record { front = []; back = []; whole = refl; comes = stop; goes = stop }; least = λ b m. absurd (List·Memᴰ·not-nil m) }
+least-of {i} stop = record {
+  event = i;
+  parted = record { front = []; back = []; whole = refl; comes = stop; goes = stop };
+  least = λ b m. absurd (List·Memᴰ·not-nil m);
+}
 least-of {j = j} (step {b = b} {bs = bs} l) = go (least-of l) (decLe (b .start) (least-of l .event))
   where
     go : (m : Least (b .end) j bs) → Dec (b .start ≤ m .event) → Least (b .start) j (b ∷ bs)
@@ -75,7 +83,13 @@ least-of {j = j} (step {b = b} {bs = bs} l) = go (least-of l) (decLe (b .start) 
         let p = m .parted in
         record {
           event = m .event;
-          parted = record { front = b ∷ p .front; back = p .back; whole = ap {B = List Bound} (λ z. b ∷ z) (p .whole); comes = step (p .comes); goes = p .goes };
+          parted = record {
+            front = b ∷ p .front;
+            back = p .back;
+            whole = ap {B = List Bound} (λ z. b ∷ z) (p .whole);
+            comes = step (p .comes);
+            goes = p .goes;
+          };
           least = λ x q. ⊎-elim (λ e. rw e (omega arith)) (λ r. m .least x r) (List·Memᴰ·cases-cons q);
         }
 
@@ -109,7 +123,9 @@ two-steps {j = j} (step {b = b} {bs = bs} l) e f m = go bs l
 
 module _ {p : Plan} (w : WithoutFault p) {from : ℕ} {steps : List Bound} (l : Loop (Given p) from steps) where
   pub loop-counted : length steps ≡ different (starts steps ++ ends steps)
-  loop-counted = sym (different-again (starts steps) (ends steps) (starts-entered (l .closed) refl) ∙ different-all (ends steps) (l .once) ∙ length-map steps (λ b. b .end))
+  loop-counted =
+      let again = different-again (starts steps) (ends steps) (starts-entered (l .closed) refl) in
+      sym (again ∙ different-all (ends steps) (l .once) ∙ length-map steps (λ b. b .end))
 
   pub loop-two : 2 ≤ length steps
   loop-two = two-steps (l .closed) refl (λ b m. bound-placed p w b (l .given b m) .apart) (l .negative)

@@ -26,7 +26,13 @@ without x [] t = record { rest = []; long = zero-le; once = tt; from = λ v m. m
 without x (y ∷ ys) t = go (ℕ-discrete x y) (without x ys (distinct-tail y ys t))
   where
     go : Dec (x ≡ y) → Without x ys → Without x (y ∷ ys)
-    go (yes e) w = record { rest = ys; long = omega arith; once = distinct-tail y ys t; from = λ v m. List·Memᴰ·tail m; gone = λ m. distinct-head y ys t (Memᴰ·cast (sym e) m) }
+    go (yes e) w = record {
+      rest = ys;
+      long = omega arith;
+      once = distinct-tail y ys t;
+      from = λ v m. List·Memᴰ·tail m;
+      gone = λ m. distinct-head y ys t (Memᴰ·cast (sym e) m);
+    }
     go (no n) w = record {
       rest = y ∷ w .rest;
       long = omega (arith, w .long);
