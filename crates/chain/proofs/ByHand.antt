@@ -8,6 +8,7 @@
 --     with-word, with-bound, with-entries, with-set        such a value before a formula
 --     passes           what the parameters of `look_at`, `scan` and `scan_listed` own, as one formula
 --     exits            one of the three returns
+--     spelled, spelled-tells   the parameters of `look_at` and `scan` as machine values
 --     bound-out, bound-back    bound k of a lent list is taken out, with its machine value and its relation, and put back
 --     lends-list, list-back    a local array of bounds is lent as a list for a lifetime of its own, and is a local again
 --     lends-on, comes-on       a `&mut [T]` is lent again for a lifetime of its own, and comes back (`Lent`)
@@ -28,6 +29,7 @@ use prog.Wp.{Heap, Env, Calls, Loops, spotOf, WpFn, Closed, Tables}
 use prog.Model.{Model}
 use prog.Routine.{Routine, Env as Routines}
 use ghost.Atoms.{Atoms, sem}
+use contract.Lifetimes.{Lfts}
 use contract.Monad.{fact}
 use contract.Running.{GhostRules, Running, givenOf, tables, tablesOf}
 use sound.WpLaws.{WpFn-mono}
@@ -37,12 +39,12 @@ use types.Run.{Opd, Rv, look, init, forget, stop, from, load, assigns, free1}
 use types.Share.{arr-parts}
 use types.Tokens.{lft-new, lft-end, lent-back}
 use denote.RattleType.{RattleType}
-use denote.Laws.{Is, shows}
+use denote.Laws.{Is, Ises, Spells, Tellss, shows}
 use denote.Memory.{shares, lone, cellAt}
-use denote.Plain.{uint-makes}
-use denote.Builtin.{usize}
+use denote.Plain.{uint-makes, uint-vals, uint-tells}
+use denote.Builtin.{usize, u16, i32}
 use denote.Ref.{RefT}
-use denote.Slice.{sliceVal, ShrSlice, MutSlice, Room, finally, shr-slice-copy}
+use denote.Slice.{sliceVal, ShrSlice, MutSlice, Room, finally, slice-vals, shr-slice-tells, mut-slice-tells, shr-slice-copy}
 use denote.Index.{place as place-of, others, elem-out, elem-back, looks-slice, shuts-slice}
 use denote.Lend.{lends-shr-slice}
 use denote.Array.{Array, array-lawful, array-makes}
@@ -250,6 +252,23 @@ module _ {M : Type 1} {𝓤 : URA M} {H : Heap 𝓤} {A : Atoms 𝓤} {K : Type 
         (comes-back R κ (ν ∷ []) q γ b o 𝓤 H A W ℓ ℓ ys δ zs room long) $ await t z $ split t $ s)
 
 -- ---- the parameters of `look_at`, `scan` and `scan_listed`: the list, a word, the distances, a word, a set of events and the notes
+
+-- of `look_at` and `scan`, to which the list is lent: their types, how each is spelled in machine values, and what these tell of it
+abbrev Passed : Lfts 3 → List RattleType
+Passed κs =
+    ShrSlice (named 0) (κs .0) T.the-row ∷ usize ∷ ShrSlice (named 1) (κs .1 .0) i32 ∷ usize ∷ S.the-row ∷ MutSlice (named 2) (κs .1 .1 .0) u16 ∷ []
+
+abbrev pub spelled : (κs : Lfts 3) → Spells (Passed κs)
+spelled κs = (slice-vals, (uint-vals w64, (slice-vals, (uint-vals w64, (LL.vals S.the-type S′.the-laws, (slice-vals, tt))))))
+
+abbrev pub spelled-tells : (κs : Lfts 3) → Tellss (Passed κs) (Ises (Passed κs)) (spelled κs)
+spelled-tells κs =
+    let list = shr-slice-tells (named 0) (κs .0) T.the-row in
+    let word = uint-tells w64 in
+    let far = shr-slice-tells (named 1) (κs .1 .0) i32 in
+    let set = LL.tells S.the-type S′.the-laws in
+    let notes = mut-slice-tells (named 2) (κs .1 .1 .0) u16 in
+    (list, (word, (far, (word, (set, (notes, tt))))))
 
 -- the words k and a, and the set r with its machine value v; what the others own is given
 module _ (k a : ℕ) (r : EventSet) (v : Val) where

@@ -7,30 +7,17 @@ use native.Mathlib.Omega.{arith}
 use borrow.Author.Tests.{leb-true, leb-false, ltb-true, ltb-false}
 use lib.Dec.{leb, ltb}
 use lib.IntN.{ℤ}
-use lib.ListN.{length, drop, set, length-set, length-append, length-map, length-drop}
-use lib.Seq.{sets, getD-set-other}
+use lib.ListN.{length, drop, set, length-set, length-append, length-map, length-drop, drop-of-length-le}
+use lib.Seq.{sets, drop-append-le}
 use Rattle.meaning.specs.Plan.{MOST-LEVELS-TOGETHER}
 use Rattle.text.specs.declared.Word.{Word}
+use Rattle.plan.proofs.Padded.{kept-above}
 use Rattle.fields.specs.declared.Line.{Line}
 use Rattle.fields.specs.Fields.{Numbered}
 use Rattle.line.specs.Effects.{levelOf}
 use Rattle.line.specs.Lines.{isWishWord, withLevel, Stored}
 
--- ---- one number more in a list
-
-drop-three : (vs : List ℤ) (v : ℤ) → 3 ≤ length vs → drop 3 (vs ++ (v ∷ [])) ≡ drop 3 vs ++ (v ∷ [])
-drop-three [] v h = absurd (omega arith)
-drop-three (a ∷ []) v h = absurd (omega arith)
-drop-three (a ∷ b ∷ []) v h = absurd (omega arith)
-drop-three (a ∷ b ∷ c ∷ vs) v h = refl
-
-no-levels : (vs : List ℤ) → length vs ≤ 3 → drop 3 vs ≡ []
-no-levels [] h = refl
-no-levels (a ∷ []) h = refl
-no-levels (a ∷ b ∷ []) h = refl
-no-levels (a ∷ b ∷ c ∷ []) h = refl
-no-levels (a ∷ b ∷ c ∷ d ∷ vs) h = absurd (omega arith)
-
+-- one number more at the end of a run of stores
 sets-more : (xs l : List ℕ) (i x : ℕ) → set (sets l i xs) (i + length xs) x ≡ sets l i (xs ++ (x ∷ []))
 sets-more [] l i x = let q : i + 0 ≡ i = omega arith in rw q
 sets-more (y ∷ xs) l i x =
@@ -66,8 +53,8 @@ module _ {vs : List ℤ} {l : Line} {used : ℕ} {before after : List ℕ} (n : 
     above = s .above;
     other = s .other;
     levels = λ q fits.
-        let none = no-levels vs (omega (arith, n .count)) in
-        rw (no-levels (vs ++ (v ∷ [])) (omega (arith, more))) (rw none at (s .levels q (omega (arith, fits, more, n .count))));
+        let none = drop-of-length-le vs {i = 3} (omega (arith, n .count)) in
+        rw (drop-of-length-le (vs ++ (v ∷ [])) {i = 3} (omega (arith, more))) (rw none at (s .levels q (omega (arith, fits, more, n .count))));
   }
 
   -- there is no room for it
@@ -79,12 +66,13 @@ module _ {vs : List ℤ} {l : Line} {used : ℕ} {before after : List ℕ} (n : 
       → Stored (l .word) (vs ++ (v ∷ [])) used before (set after place (levelOf v))
   put h three w = record {
     long = length-set after place (levelOf v) ∙ s .long;
-    above = λ i far. getD-set-other after place i (levelOf v) 0 (λ e. omega arith) ∙ s .above i far;
+    above = kept-above MOST-LEVELS-TOGETHER after before place (levelOf v) h (s .above);
     other = λ q. let z : _≡_ {A = ℕ} 0 1 = cc in absurd (omega arith);
     levels = λ q fits.
         let so-far : after ≡ sets before used ls = s .levels q (omega (arith, n .count)) in
         let at : used + length ls ≡ place = omega (arith, ls-count) in
-        rw (drop-three vs v (omega (arith, n .count)), map-append levelOf (drop 3 vs) (v ∷ []), so-far, ← at) (sets-more ls before used (levelOf v));
+        let last = drop-append-le 3 vs (v ∷ []) (omega (arith, n .count)) in
+        rw (last, map-append levelOf (drop 3 vs) (v ∷ []), so-far, ← at) (sets-more ls before used (levelOf v));
   }
 
   pub stored-more : Stored (l .word) (vs ++ (v ∷ [])) used before (withLevel l used v after)

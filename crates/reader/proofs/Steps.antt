@@ -26,6 +26,7 @@ use Rattle.plan.proofs.Growth.{withRow, holds-more, held-more}
 use Rattle.plan.proofs.Padded.{all-same, one-more}
 use Rattle.fields.specs.declared.Line.{Line}
 use Rattle.faults.specs.declared.SoFar.{SoFar}
+use Rattle.faults.specs.Faults.{NO-FAULT}
 use Rattle.fields.specs.declared.Field.the-variants.{Number, Wrong}
 use Rattle.line.specs.declared.Effect.the-variants.{Fault, Head, Entry}
 use Rattle.fields.specs.Fields.{begun, withNumber, fieldEnd, FieldRead, Numbered}
@@ -72,7 +73,7 @@ begin {text} o l = record {
 
 -- ---- out of the walk
 
--- with this fault (0: none) in line `number`: the answer that the two make is right
+-- with this fault, or none, in line `number`: the answer that the two make is right
 pub record Left (text before levels : List ℕ) (h : Plan) (fault number : ℕ) : Type 0 where
   pub long : length levels ≡ length before
   pub walked : Walked text before levels (record { verdict = verdictAt fault number; plan = h })
@@ -105,13 +106,13 @@ module _ {text before levels : List ℕ} {h : Plan} {number at : ℕ} (w : Walki
   pub broken : {levels′ : List ℕ} {fault : ℕ} → 0 < fault → lines text ≡ refused fault number → length levels′ ≡ length levels
       → ((i : ℕ) → MOST-LEVELS-TOGETHER ≤ i → getD levels′ i 0 ≡ getD levels i 0) → Left text before levels′ h fault number
   broken {levels′} {fault} real e long above =
-      left-refused (long ∙ w .held .long) e (rw (ne-eqb fault 0 (λ z. omega arith))) (λ i k. above i k ∙ w .held .rest i k)
+      left-refused (long ∙ w .held .long) e (rw (ne-eqb fault NO-FAULT (λ z. omega arith))) (λ i k. above i k ∙ w .held .rest i k)
 
   pub wrong-form : lines text ≡ refused WRONG-FORM number → Left text before levels h WRONG-FORM number
   wrong-form e = broken (omega arith) e refl (λ i _. refl)
 
   -- at the end of the text
-  pub ended : {fault : ℕ} → fault ≡ 0 → length text ≤ at → Left text before levels h fault number
+  pub ended : {fault : ℕ} → fault ≡ NO-FAULT → length text ≤ at → Left text before levels h fault number
   ended {fault} sound e = go (eqb number 1) refl
     where
       out : at ≡ length text

@@ -26,10 +26,9 @@ use types.Run.{enter, alloc1, alloc0, params1, pass1, pass0, free0}
 use sound.WpLaws.{fmOf}
 use denote.RattleType.{owns}
 use denote.Laws.{Is, shows}
-use denote.Plain.{uint-vals, uint-tells}
 use denote.Builtin.{u16, usize, i32}
 use denote.Ref.{RefT}
-use denote.Slice.{sliceVal, ShrSlice, MutSlice, Room, slice-vals, shr-slice-tells, mut-slice-tells, shr-slice-copy}
+use denote.Slice.{sliceVal, ShrSlice, MutSlice, Room, shr-slice-copy}
 use denote.Index.{place-is}
 use denote.Signature.{plain}
 use denote.Steps.{nothing, peeks}
@@ -51,7 +50,7 @@ use Rattle.chain.specs.Clash.{boundAt}
 use Rattle.chain.specs.Marks.{NOTES, Looking, Look}
 use Rattle.chain.proofs.Bound as T
 use Rattle.chain.proofs.ByHand.{word-typed, slice-typed, bound-typed, set-typed, held, sets, dead, skip, with-word}
-use Rattle.chain.proofs.ByHand.{with-bound, with-set, exits}
+use Rattle.chain.proofs.ByHand.{with-bound, with-set, exits, spelled, spelled-tells}
 use Rattle.chain.proofs.ByHand.{elem, mach, bound-out, bound-back, answered, by-walk, stay-word, stay-set}
 use Rattle.chain.proofs.look as look′
 use Rattle.chain.proofs.look.Symbol as look-def
@@ -200,14 +199,7 @@ module _ {M : Type 1} (𝓤 : URA M) (H : Heap 𝓤) (A : Atoms 𝓤) (W : Given
   look-at-walks : (𝓣 : Tables 𝓤 H) → Triple 𝓤 (𝓣 .C #chain·look) Looks
       → Walks 𝓤 H A look-at.ended stayed (WpFn 𝓤 H (𝓣 .C) (𝓣 .Λ) code.function) (look-at.clauses 𝓤 H A mem run)
   look-at-walks 𝓣 known = walked 𝓤 H A look-at.ended stayed (look-at.clauses 𝓤 H A mem run) (WpFn 𝓤 H (𝓣 .C) (𝓣 .Λ) code.function)
-      (λ κs. (slice-vals, (uint-vals w64, (slice-vals, (uint-vals w64, (LL.vals S.the-type S′.the-laws, (slice-vals, tt)))))))
-      (λ κs.
-      let list = shr-slice-tells (named 0) (κs .0) T.the-row in
-      let word = uint-tells w64 in
-      let far = shr-slice-tells (named 1) (κs .1 .0) i32 in
-      let set = LL.tells S.the-type S′.the-laws in
-      let notes = mut-slice-tells (named 2) (κs .1 .1 .0) u16 in
-      (list, (word, (far, (word, (set, (notes, tt)))))))
+      spelled spelled-tells
       (λ κs qs bounds a g are. needs 𝓤 _ _ (walk (κs .0) (κs .1 .0) (κs .1 .1 .0) (qs .0) (qs .1 .0) (qs .1 .1 .0)
       (a .0) (a .1 .0) (a .1 .1 .0) (a .1 .1 .1 .0) (a .1 .1 .1 .1 .0) (a .1 .1 .1 .1 .1 .0)
       (are .1 .0 .1) (are .1 .1 .1 .0 .1) (are .1 .1 .1 .1 .0) 𝓣 known (are .0 .0 .1) (are .1 .1 .0 .0 .1) (are .1 .1 .1 .1 .1 .0 .0 .1)))

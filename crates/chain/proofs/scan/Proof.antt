@@ -31,10 +31,9 @@ use sound.WpLaws.{fmOf}
 use denote.RattleType.{owns}
 use denote.Laws.{Is, shows}
 use denote.Memory.{pointee}
-use denote.Plain.{uint-vals, uint-tells}
 use denote.Builtin.{u16, usize, i32}
 use denote.Ref.{RefT}
-use denote.Slice.{sliceTy, sliceVal, ShrSlice, MutSlice, Room, slice-vals, shr-slice-tells, mut-slice-tells, shr-slice-copy}
+use denote.Slice.{sliceTy, sliceVal, ShrSlice, MutSlice, Room, shr-slice-copy}
 use denote.Signature.{plain}
 use denote.Steps.{nothing, peeks}
 use denote.Struct.Laws as LL
@@ -55,7 +54,7 @@ use Rattle.chain.specs.Clash.{boundAt}
 use Rattle.chain.specs.Marks.{Looking, Look, Scanning}
 use Rattle.chain.proofs.Bound as T
 use Rattle.chain.proofs.Lent.{at-list}
-use Rattle.chain.proofs.ByHand.{word-typed, slice-typed, set-typed, held, sets, from-to, dead, skip, has-set, passes, exits}
+use Rattle.chain.proofs.ByHand.{word-typed, slice-typed, set-typed, held, sets, from-to, dead, skip, has-set, passes, exits, spelled, spelled-tells}
 use Rattle.chain.proofs.ByHand.{ListOf, lends-on, comes-on, answered, by-walk, stay-word, stay-set}
 use Rattle.chain.proofs.Searched.{searched, taken, left}
 use Rattle.chain.proofs.Marks.{Under, under-start, under-step, under-end}
@@ -339,14 +338,7 @@ module _ {M : Type 1} (𝓤 : URA M) (H : Heap 𝓤) (A : Atoms 𝓤) (W : Given
   scan-walks : (𝓣 : Tables 𝓤 H) → Triple 𝓤 (𝓣 .C #chain·look-at) Looks
       → Walks 𝓤 H A scan.ended stayed (WpFn 𝓤 H (𝓣 .C) (𝓣 .Λ) code.function) (scan.clauses 𝓤 H A mem run)
   scan-walks 𝓣 known = walked 𝓤 H A scan.ended stayed (scan.clauses 𝓤 H A mem run) (WpFn 𝓤 H (𝓣 .C) (𝓣 .Λ) code.function)
-      (λ κs. (slice-vals, (uint-vals w64, (slice-vals, (uint-vals w64, (LL.vals S.the-type S′.the-laws, (slice-vals, tt)))))))
-      (λ κs.
-      let list = shr-slice-tells (named 0) (κs .0) T.the-row in
-      let word = uint-tells w64 in
-      let far = shr-slice-tells (named 1) (κs .1 .0) i32 in
-      let set = LL.tells S.the-type S′.the-laws in
-      let notes = mut-slice-tells (named 2) (κs .1 .1 .0) u16 in
-      (list, (word, (far, (word, (set, (notes, tt)))))))
+      spelled spelled-tells
       (λ κs qs bounds a g are. needs 𝓤 _ _ (λ asks. walk (κs .0) (κs .1 .0) (κs .1 .1 .0) (qs .0) (qs .1 .0) (qs .1 .1 .0)
       (a .0) (a .1 .0) (a .1 .1 .0) (a .1 .1 .1 .0) (a .1 .1 .1 .1 .0) (a .1 .1 .1 .1 .1 .0)
       (are .1 .0 .1) (are .1 .1 .1 .0 .1) (are .1 .1 .1 .1 .0) 𝓣 known (are .1 .1 .1 .1 .1 .0 .0 .1) asks (are .0 .0 .1) (are .1 .1 .0 .0 .1)))
