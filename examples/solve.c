@@ -25,17 +25,18 @@ static const char *line_of(size_t record) {
     return line;
 }
 
-/* The last number of a rule is hi; a wish has a level for each distance from lo on. */
-static int high_of(const char *line, int lo) {
-    int hi = lo - 1, tabs = 0;
-    if (*line == 'r') {
-        sscanf(line, "rule %*d %*d %*d %d", &hi);
-        return hi;
-    }
+/* A wish has a level for each distance from its lo on. Its ends are the first and the last distance whose level is not 0. */
+static void wish_ends(const char *line, int *lo, int *hi) {
+    int first = 0, tabs = 0, any = 0;
+    sscanf(line, "wish %*d %*d %d", &first);
     for (; *line != '\n'; line++) {
-        tabs += *line == '\t';
+        /* The levels begin behind the fourth tab. */
+        if (*line == '\t' && ++tabs >= 4 && line[1] != '0') {
+            *hi = first + tabs - 4;
+            *lo = any ? *lo : *hi;
+            any = 1;
+        }
     }
-    return hi + tabs - 3;
 }
 
 static void print_step(unsigned code) {
@@ -45,8 +46,12 @@ static void print_step(unsigned code) {
         sscanf(text, "events %*d %d", &hi);
     } else {
         const char *line = line_of(code / 2);
-        sscanf(line, "%*s %d %d %d", &from, &to, &lo);
-        hi = high_of(line, lo);
+        sscanf(line, "%*s %d %d", &from, &to);
+        if (*line == 'r') {
+            sscanf(line, "rule %*d %*d %d %d", &lo, &hi);
+        } else {
+            wish_ends(line, &lo, &hi);
+        }
     }
     if (code % 2 == 0) {
         printf("step\t%d\t%d\t%d\t%u\n", from, to, hi, code);

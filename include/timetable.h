@@ -31,9 +31,12 @@ extern "C" {
  *   5    a = b                                               line                 nothing
  *   6    levels not single-peaked                            line                 nothing
  *   7    a result area too short                             0                    nothing
+ *   8    a wish all of whose levels are 0                    line                 nothing
  *
  * All other entries of the three areas keep their old contents. 7 comes first, then 3 for the text's length, then the first
- * line with a fault, and in it the first fault in the order 2 to 6. */
+ * line with a fault, and in it the first fault in the order 2, 3, 4, 5, 6, 8.
+ *
+ * Level 0 means that a distance is not allowed: a timetable has level 1 or more at each wish. */
 #define TIMETABLE_SOLVED 0
 #define TIMETABLE_NONE 1
 #define TIMETABLE_WRONG_FORM 2
@@ -42,12 +45,15 @@ extern "C" {
 #define TIMETABLE_SAME_EVENT 5
 #define TIMETABLE_NOT_PEAKED 6
 #define TIMETABLE_SHORT_AREA 7
+#define TIMETABLE_NOTHING_ALLOWED 8
 
 /* A chain is a row of bounds t(end) - t(start) <= weight that lead round and whose weights sum below zero. An entry is the
  * code of a bound, for record k (from 0) and event e:
  *
  *   2k        from a to b, weight hi          512 + 2e  from 0 to e, weight horizon
- *   2k + 1    from b to a, weight -lo         513 + 2e  from e to 0, weight 0 */
+ *   2k + 1    from b to a, weight -lo         513 + 2e  from e to 0, weight 0
+ *
+ * Here lo and hi of a wish are the ends of the distances that it allows: the first and the last with level 1 or more. */
 #define TIMETABLE_HORIZON_CODE 512
 
 /* Solves the plan in text[0 .. n-1]. The areas hold nt, nl and nc entries.

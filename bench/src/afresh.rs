@@ -22,7 +22,7 @@ pub struct Solved {
     pub questions: usize,
 }
 
-/// Climbs the ladder. A wish that is stuck is not asked again.
+/// Climbs the ladder, whose first grade is part of the plan. A wish that is stuck is not asked again.
 pub fn solve(plan: &Plan, question: &mut impl Question) -> Option<Solved> {
     let mut bounds = all_bounds(plan);
     let mut times = [0; MOST];
@@ -31,7 +31,7 @@ pub fn solve(plan: &Plan, question: &mut impl Question) -> Option<Solved> {
         return None;
     }
     let mut climbing: Vec<(usize, &Record)> = plan.wishes().collect();
-    for grade in 1..=15 {
+    for grade in 2..=15 {
         climbing.retain(|&(record, wish)| {
             let Some((low, high)) = run(wish, grade) else { return false };
             let before = [bounds[2 * record], bounds[2 * record + 1]];
@@ -56,11 +56,18 @@ pub fn solve(plan: &Plan, question: &mut impl Question) -> Option<Solved> {
 
 /// Two bounds for each record, then two for each event but the origin.
 fn all_bounds(plan: &Plan) -> Vec<Bound> {
-    let bound =
-        |start: usize, end: usize, weight: i64| Bound { start: start as u32, end: end as u32, weight: weight as i32 };
-    let of_record = |r: &Record| [bound(r.start, r.end, r.high()), bound(r.end, r.start, -r.low)];
-    let of_horizon = |e: usize| [bound(0, e, plan.horizon), bound(e, 0, 0)];
+    let bound = |start: usize, end: usize, weight: i32| Bound { start: start as u32, end: end as u32, weight };
+    let of_record = |r: &Record| {
+        let (low, high) = ends(r);
+        [bound(r.start, r.end, high), bound(r.end, r.start, -low)]
+    };
+    let of_horizon = |e: usize| [bound(0, e, plan.horizon as i32), bound(e, 0, 0)];
     plan.records.iter().flat_map(of_record).chain((1..plan.events).flat_map(of_horizon)).collect()
+}
+
+/// The ends of the distances that a record allows: a wish has a run at grade 1, a rule has its own.
+fn ends(record: &Record) -> (i32, i32) {
+    run(record, 1).unwrap_or((record.low as i32, record.high() as i32))
 }
 
 /// The distances at this grade or more.

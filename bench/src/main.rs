@@ -59,6 +59,7 @@ fn plans() -> Vec<Plan> {
             wishes: 100,
             levels: *chance.pick(&[32, 48, 62]),
             heights: &[15],
+            bordered: 0,
             slack: 1_000,
             moved: 0,
             moved_by: 0,

@@ -1,5 +1,5 @@
-//! Bounds and chains: document 01, section 5, word for word.
-use crate::plan::Plan;
+//! Bounds and chains: document 01, section 5, word for word, with the ends of a wish as request T-04 has them.
+use crate::plan::{Kind, Plan, Record};
 use std::collections::BTreeSet;
 
 /// t(end) − t(start) ≤ weight.
@@ -16,8 +16,9 @@ pub fn bounds(plan: &Plan) -> Vec<Bound> {
     let mut bounds = Vec::with_capacity(2 * (plan.records.len() + plan.events));
     for (k, record) in plan.records.iter().enumerate() {
         let (a, b, code) = (record.start, record.end, 2 * k as u16);
-        bounds.push(Bound { start: a, end: b, weight: record.high(), code });
-        bounds.push(Bound { start: b, end: a, weight: -record.low, code: code + 1 });
+        let (low, high) = ends(record);
+        bounds.push(Bound { start: a, end: b, weight: high, code });
+        bounds.push(Bound { start: b, end: a, weight: -low, code: code + 1 });
     }
     for e in 1..plan.events {
         let code = 512 + 2 * e as u16;
@@ -25,6 +26,18 @@ pub fn bounds(plan: &Plan) -> Vec<Bound> {
         bounds.push(Bound { start: e, end: 0, weight: 0, code: code + 1 });
     }
     bounds
+}
+
+/// A rule's own ends; those of a wish's run at grade 1, which a wish without fault has.
+fn ends(record: &Record) -> (i64, i64) {
+    match &record.kind {
+        Kind::Rule { high } => (record.low, *high),
+        Kind::Wish { levels } => {
+            let mut run = (record.low..).zip(levels).filter(|(_, &level)| level >= 1).map(|(distance, _)| distance);
+            let first = run.next().expect("a wish without fault has a level of 1 or more");
+            (first, run.last().unwrap_or(first))
+        }
+    }
 }
 
 /// Every condition of a chain.

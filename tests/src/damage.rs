@@ -1,4 +1,4 @@
-//! Damaged texts: fields, lines and bytes that are changed, deleted, doubled or put in.
+//! Damaged texts: fields, lines and bytes that are changed, deleted, doubled or put in, and wishes that allow nothing.
 use crate::chance::Chance;
 
 /// What a field is replaced by: numbers at and past the limits, and things that are no numbers.
@@ -44,6 +44,20 @@ pub fn every_field(text: &[u8]) -> Vec<Vec<u8>> {
         texts.push(changed(&lines, row, |line| line.push(b"0".to_vec())));
     }
     texts
+}
+
+/// Every wish in turn with zeros for its levels.
+pub fn every_wish(text: &[u8]) -> Vec<Vec<u8>> {
+    let lines = fields_of(text);
+    let wishes = (0..lines.len()).filter(|&row| lines[row][0] == b"wish");
+    wishes.map(|row| changed(&lines, row, |line| put_zeros(line))).collect()
+}
+
+/// A wish of zeros. Another line is left alone.
+fn put_zeros(line: &mut [Vec<u8>]) {
+    if line[0] == b"wish" {
+        line.iter_mut().skip(4).for_each(|level| *level = b"0".to_vec());
+    }
 }
 
 fn changed(lines: &[Vec<Vec<u8>>], row: usize, change: impl FnOnce(&mut Vec<Vec<u8>>)) -> Vec<u8> {
@@ -109,13 +123,14 @@ fn random_field(chance: &mut Chance, text: &[u8]) -> Vec<u8> {
     let row = chance.below(lines.len());
     let line = &mut lines[row];
     let column = chance.below(line.len());
-    match chance.below(10) {
+    match chance.below(11) {
         0 => drop(line.remove(column)),
         1 => line.insert(column, line[column].clone()),
         2 => line[column] = chance.pick(WORDS).as_bytes().to_vec(),
         3 => line[column] = chance.pick(FIGURES).as_bytes().to_vec(),
         4 => drop(lines.remove(row)),
         5 => lines.insert(row, lines[row].clone()),
+        6 => put_zeros(line),
         _ => line[column] = random_number(chance).to_string().into_bytes(),
     }
     join(&lines)

@@ -1,7 +1,8 @@
-//! Small plans by listing every timetable: sections 1 and 6 and demand 3, word for word. No bounds, no distances.
-use crate::plan::{Plan, Record};
+//! Small plans by listing every timetable: sections 1 and 6 and demand 3, word for word, and of request T-04 what a timetable is.
+//! No bounds, no runs.
+use crate::plan::{Kind, Plan, Record};
 
-/// Every row of times that keeps the horizon, all rules and all wish spans.
+/// Every row of times that keeps the horizon and all rules, and has level 1 or more at each wish.
 pub fn timetables(plan: &Plan) -> Vec<Vec<i64>> {
     let mut rows = vec![vec![0]];
     for _ in 1..plan.events {
@@ -16,7 +17,11 @@ fn distance(times: &[i64], record: &Record) -> i64 {
 }
 
 fn keeps(times: &[i64], record: &Record) -> bool {
-    (record.low..=record.high()).contains(&distance(times, record))
+    let distance = distance(times, record);
+    match &record.kind {
+        Kind::Rule { high } => (record.low..=*high).contains(&distance),
+        Kind::Wish { levels } => (record.low..).zip(levels).any(|(at, &level)| at == distance && level >= 1),
+    }
 }
 
 /// The levels of the wishes, in record order.

@@ -1,4 +1,5 @@
-//! Random plans without fault. Each is made around a hidden row of times, so that it has a timetable unless records are moved.
+//! Random plans without fault. Each is made around a hidden row of times, which every record allows unless it is moved or
+//! turned round.
 use crate::chance::Chance;
 use crate::plan::*;
 
@@ -13,15 +14,18 @@ pub struct Shape {
     /// The most levels of one wish, and what the greatest of them may be.
     pub levels: usize,
     pub heights: &'static [i64],
+    /// How many of a hundred wishes have zeros typed around the distances that they allow.
+    pub bordered: usize,
     /// How far a rule's ends lie from the hidden distance at most.
     pub slack: i64,
-    /// How many of a thousand records are moved away from the hidden distance, and how far at most.
+    /// How many of a thousand records are moved away from the hidden distance, and how far at most. As many wishes with borders
+    /// are turned round: they still reach over the hidden distance, but may have a 0 there.
     pub moved: usize,
     pub moved_by: i64,
 }
 
 /// Low, middling and mostly high wishes.
-const HEIGHTS: &[i64] = &[0, 1, 2, 5, 15, 15, 15];
+const HEIGHTS: &[i64] = &[1, 2, 5, 15, 15, 15];
 
 /// Plans of every size: many small ones, some at the limits, tight and loose, with and without timetables.
 pub fn any_shape(chance: &mut Chance) -> Shape {
@@ -34,6 +38,7 @@ pub fn any_shape(chance: &mut Chance) -> Shape {
         wishes: *chance.pick(&[0, 10, 50, 90, 100]),
         levels: *chance.pick(&[1, 2, 4, 8, 32]),
         heights: HEIGHTS,
+        bordered: *chance.pick(&[0, 50, 100]),
         slack: *chance.pick(&[0, 1, 5, 100, 100_000]),
         moved: *chance.pick(&[0, 20, 100, 300, 1_000]),
         moved_by: *chance.pick(&[1, 3, 50, 100_000]),
@@ -49,6 +54,7 @@ pub fn full_shape(chance: &mut Chance) -> Shape {
         wishes: *chance.pick(&[0, 20, 50, 100]),
         levels: *chance.pick(&[32, 63, 256]),
         heights: HEIGHTS,
+        bordered: *chance.pick(&[0, 50, 100]),
         slack: *chance.pick(&[2, 20, 500, 100_000]),
         moved: *chance.pick(&[0, 0, 4, 20]),
         moved_by: *chance.pick(&[1, 10, 1_000]),
@@ -64,6 +70,7 @@ pub fn small_shape(chance: &mut Chance) -> Shape {
         wishes: *chance.pick(&[0, 60, 100, 100]),
         levels: *chance.pick(&[1, 3, 6, 12]),
         heights: &[1, 2, 3, 5, 15],
+        bordered: *chance.pick(&[0, 50, 100]),
         slack: chance.between(0, 6),
         moved: *chance.pick(&[0, 200, 600]),
         moved_by: chance.between(1, 4),
@@ -113,13 +120,20 @@ pub fn path(chance: &mut Chance, events: usize, room: i64) -> Plan {
     Plan::new(events, sum + room).with(records)
 }
 
-/// One step of a path, as a rule, as a rule the other way round, or as a wish for more.
+/// One step of a path, as a rule or as a wish for more, or as one of these the other way round.
 fn path_step(chance: &mut Chance, from: usize, to: usize, step: i64) -> Record {
     let more = chance.between(0, 5);
-    match chance.below(3) {
+    let (before, behind) = (chance.below(3), chance.below(3));
+    let climb: Vec<u8> = (0..=more as u8).map(|level| (level * 3).max(1)).collect();
+    let mut levels = [vec![0; before], climb, vec![0; behind]].concat();
+    match chance.below(4) {
         0 => Record::rule(from, to, step, step + more),
         1 => Record::rule(to, from, -step - more, -step),
-        _ => Record::wish(from, to, step, (0..=more as u8).map(|level| level * 3).collect()),
+        2 => Record::wish(from, to, step - before as i64, levels),
+        _ => {
+            levels.reverse();
+            Record::wish(to, from, -step - more - behind as i64, levels)
+        }
     }
 }
 
@@ -146,7 +160,7 @@ fn record(chance: &mut Chance, shape: &Shape, hidden: &[i64], room: usize) -> Re
     if room > 0 && chance.percent(shape.wishes) {
         let count = 1 + chance.below(shape.levels.min(room));
         let low = wish_low(chance, distance, count as i64);
-        Record::wish(start, end, low, peaked_levels(chance, count, shape.heights))
+        Record::wish(start, end, low, wish_levels(chance, shape, count, (distance - low) as usize))
     } else {
         let low = (distance - chance.between(0, shape.slack)).max(-MOST_END);
         let high = (distance + chance.between(0, shape.slack)).min(MOST_END);
@@ -158,6 +172,42 @@ fn record(chance: &mut Chance, shape: &Shape, hidden: &[i64], room: usize) -> Re
 fn wish_low(chance: &mut Chance, distance: i64, count: i64) -> i64 {
     let low = distance - chance.between(0, count - 1);
     low.clamp(-MOST_END, MOST_END - count + 1)
+}
+
+/// Single-peaked levels that allow the hidden distance, which stands at `hidden` among them.
+fn wish_levels(chance: &mut Chance, shape: &Shape, count: usize, hidden: usize) -> Vec<u8> {
+    let mut levels = peaked_levels(chance, count, shape.heights);
+    allow(&mut levels, hidden);
+    // Without borders no chance is taken, so that the bench's plans do not hang on them.
+    if shape.bordered > 0 && chance.percent(shape.bordered) {
+        put_borders(chance, &mut levels, hidden);
+        if chance.below(1_000) < shape.moved {
+            levels.reverse();
+        }
+    }
+    levels
+}
+
+/// A level of 1 or more at this place, and all the way to the top, so that the row stays single-peaked.
+fn allow(levels: &mut [u8], at: usize) {
+    let top = (0..levels.len()).max_by_key(|&place| levels[place]).unwrap_or(at);
+    for level in &mut levels[at.min(top)..=at.max(top)] {
+        *level = (*level).max(1);
+    }
+}
+
+/// Zeros everywhere but at this place, or in front, at the end, or both.
+fn put_borders(chance: &mut Chance, levels: &mut [u8], at: usize) {
+    let first = chance.below(at + 1);
+    let last = at + chance.below(levels.len() - at);
+    let (first, last) = match chance.below(4) {
+        0 => (at, at),
+        1 => (first, levels.len() - 1),
+        2 => (0, last),
+        _ => (first, last),
+    };
+    levels[..first].fill(0);
+    levels[last + 1..].fill(0);
 }
 
 /// Single-peaked levels: random heights, sorted up to the top and down from there.

@@ -2,6 +2,7 @@
 pub mod bounds;
 pub mod chance;
 pub mod damage;
+pub mod enumerate;
 pub mod exhaustive;
 pub mod generate;
 pub mod known;

@@ -1,4 +1,5 @@
-//! Texts at the limits of document 01, one past them, and with several faults, each with the refusal that sections 1 to 4 state.
+//! Texts at the limits of document 01, one past them, and with several faults, each with the refusal that sections 1 to 4 and
+//! request T-04 state.
 use crate::plan::*;
 use crate::reader::Refusal;
 
@@ -35,7 +36,8 @@ pub fn numbers() -> Vec<Stated> {
         ranged("events 2 9;wish 0 1 ", " 7;", 2, &ends, &far),
         // A wish of three levels ends two ticks after its lo.
         ranged("events 2 9;wish 0 1 ", " 1 2 3;", 2, &[-100_000, 99_998], &[-100_001, 99_999, 100_000]),
-        ranged("events 2 9;wish 0 1 0 ", ";", 2, &[0, 1, 14, 15], &[-1, 16, 17, 9_999_999, -9_999_999]),
+        ranged("events 2 9;wish 0 1 0 ", ";", 2, &[1, 2, 14, 15], &[-1, 16, 17, 9_999_999, -9_999_999]),
+        ranged("events 2 9;wish 0 1 0 3 ", ";", 2, &[0, 1, 14, 15], &[-1, 16, 17]),
         ranged("events 2 9;wish 0 1 0 3 ", " 3;", 2, &[3, 4, 15], &[-1, 16, 255, 256]),
     ]
     .concat()
@@ -45,9 +47,9 @@ fn rules(count: usize) -> Vec<Record> {
     (0..count).map(|k| Record::rule(k % 63, 63, -(k as i64), 100_000 - k as i64)).collect()
 }
 
-/// Wishes with as many levels as the list says, 0 up to 15.
+/// Wishes with as many levels as the list says, up to 15.
 fn wishes(counts: &[usize]) -> Vec<Record> {
-    let levels = |count: usize| (0..count).map(|i| (i * 16 / count) as u8).collect();
+    let levels = |count: usize| (1..=count).map(|i| (i * 15 / count) as u8).collect();
     counts.iter().enumerate().map(|(k, &count)| Record::wish(63, k % 63, -(k as i64), levels(count))).collect()
 }
 
@@ -105,7 +107,7 @@ fn filled(front: &str, piece: &str, length: usize) -> Vec<u8> {
 /// Forms that are and are not those of section 2.
 pub fn forms() -> Vec<Stated> {
     let right =
-        ["events 1 0;", "events 2 9;rule 0 1 -5 0;", "events 2 9;wish 1 0 -3 0;", "events 2 9;wish 0 1 0 0 0 0;"];
+        ["events 1 0;", "events 2 9;rule 0 1 -5 0;", "events 2 9;wish 1 0 -3 1;", "events 2 9;wish 0 1 0 0 1 0;"];
     let wrong_first = [
         "", ";", ";;", "events 2 9", "events;", "events 2;", "events 2 9 9;", "events 2 9 ;", "events  2 9;",
         " events 2 9;", "rule 0 1 0 5;", "wish 0 1 0 5;", "Events 2 9;", "EVENTS 2 9;", "event 2 9;", "eventss 2 9;",
@@ -134,12 +136,16 @@ pub fn forms() -> Vec<Stated> {
     right.chain(first).chain(later).collect()
 }
 
-/// A wish line with any of the faults 2 to 6 at once: bit f of `faults` asks for fault f.
+/// A wish line with any of the faults 2 to 5 and one of 6 and 8 at once: bit f of `faults` asks for fault f.
 fn faulty_wish(faults: u32) -> String {
     let has = |fault: u32| faults & (1 << fault) != 0;
-    let mut levels = if has(6) { vec!["2", "1", "2"] } else { vec!["1", "2", "2", "1"] };
+    let mut levels = match (has(6), has(8)) {
+        (true, _) => vec!["2", "1", "2"],
+        (_, true) => vec!["0", "0", "0"],
+        _ => vec!["1", "2", "2", "1"],
+    };
     if has(3) {
-        levels.resize(257, "1");
+        levels.resize(257, if has(8) { "0" } else { "1" });
     }
     if has(2) {
         levels.push("x");
@@ -152,7 +158,8 @@ fn faulty_wish(faults: u32) -> String {
 /// Two lines with every set of faults each: the first line at fault is reported, and in it the first fault in order.
 pub fn orders() -> Vec<Stated> {
     let first_fault = |faults: u32, line| (faults != 0).then(|| (faults.trailing_zeros() as u8, line));
-    let sets: Vec<u32> = (0..32).map(|set| set << 2).collect();
+    // Levels that are not single-peaked are not all 0.
+    let sets: Vec<u32> = (0..16).flat_map(|set| [0, 1 << 6, 1 << 8].map(|last| set << 2 | last)).collect();
     let mut texts = Vec::new();
     for &upper in &sets {
         for &lower in &sets {
@@ -172,6 +179,76 @@ pub fn orders() -> Vec<Stated> {
     texts
 }
 
+/// Wishes of zeros, at the limits and with other faults, which come first.
+pub fn zeros() -> Vec<Stated> {
+    [zeros_in_range(), zeros_counted()].concat()
+}
+
+/// At the limits of lo and of the last distance, and past them; with other faults of the line.
+fn zeros_in_range() -> Vec<Stated> {
+    let lines = [
+        ("0 1 0 0", 8),
+        ("1 0 0 0 0 0", 8),
+        ("0 1 100000 0", 8),
+        ("0 1 100001 0", 4),
+        ("0 1 99998 0 0 0", 8),
+        ("0 1 99999 0 0 0", 4),
+        ("0 1 -100000 0", 8),
+        ("0 1 -100000 0 0", 8),
+        ("0 1 -100001 0 0", 4),
+        ("0 2 0 0", 4),
+        ("-1 1 0 0", 4),
+        ("0 1 0 0 -1 0", 4),
+        ("0 1 0 0 16 0", 4),
+        ("1 1 0 0", 5),
+        ("2 2 0 0", 4),
+        ("0 1 0 00", 2),
+        ("0 1 0 0 -0", 2),
+        ("0 1 0 0 ", 2),
+    ];
+    lines.map(|(fields, number)| stated(&format!("events 2 9;wish {fields};"), Some((number, 2)))).into()
+}
+
+/// At the limits of levels and of records, and past them; with another line at fault.
+fn zeros_counted() -> Vec<Stated> {
+    let plan = |records: Vec<Record>, refusal| (Plan::new(64, 100_000).with(records).text(), Some(refusal));
+    let zeros = |count: usize| vec![Record::wish(0, 1, 0, vec![0; count])];
+    let room_for_one = || wishes(&[&[256; 31][..], &[255]].concat());
+    vec![
+        plan(zeros(256), (8, 2)),
+        plan(zeros(257), (3, 2)),
+        plan([wishes(&[256; 31]), zeros(256)].concat(), (8, 33)),
+        plan([wishes(&[256; 31]), zeros(256), zeros(1)].concat(), (8, 33)),
+        plan([wishes(&[256; 32]), zeros(1)].concat(), (3, 34)),
+        plan([room_for_one(), zeros(1)].concat(), (8, 34)),
+        plan([room_for_one(), zeros(2)].concat(), (3, 34)),
+        plan([rules(255), zeros(1)].concat(), (8, 257)),
+        plan([rules(255), zeros(256)].concat(), (8, 257)),
+        plan([rules(256), zeros(1)].concat(), (3, 258)),
+        plan([zeros(3), vec![Record::rule(0, 0, 1, 2)]].concat(), (8, 2)),
+        plan([vec![Record::rule(0, 0, 1, 2)], zeros(3)].concat(), (5, 2)),
+        plan([vec![Record::wish(0, 1, 0, vec![2, 1, 2])], zeros(3)].concat(), (6, 2)),
+    ]
+}
+
+/// Wishes that allow one distance, the first, one between or the last, at the limits of their ends. None is refused.
+pub fn single_distances() -> Vec<Stated> {
+    let mut texts = Vec::new();
+    for count in [1, 2, 3, 255, 256] {
+        for low in [-MOST_END, 0, MOST_END - count as i64 + 1] {
+            for at in [0, count / 2, count - 1] {
+                let mut levels = vec![0; count];
+                levels[at] = 1;
+                for (start, end) in [(0, 1), (1, 0)] {
+                    let wish = Record::wish(start, end, low, levels.clone());
+                    texts.push((Plan::new(2, MOST_HORIZON).with([wish]).text(), None));
+                }
+            }
+        }
+    }
+    texts
+}
+
 /// A 257th line: its form comes before its being one too many, and that before its other faults.
 fn past_the_records() -> Vec<Stated> {
     let full = Plan::new(64, 9).with(rules(256)).text();
@@ -183,6 +260,7 @@ fn past_the_records() -> Vec<Stated> {
         with("rule 0 1 0 1", (2, 258)),
         with("rule 0 1 0;", (2, 258)),
         with("wish 0 1 0 2 1 2;", (3, 258)),
+        with("wish 0 1 0 0 0;", (3, 258)),
         with("wish 0 1 0;", (2, 258)),
         with("events 2 9;", (2, 258)),
         with(";", (2, 258)),
@@ -190,18 +268,30 @@ fn past_the_records() -> Vec<Stated> {
     ]
 }
 
-/// Rows of levels and whether they are single-peaked, by the words of section 4: every row of up to six levels from 0 to 3.
-pub fn level_rows() -> Vec<(Vec<u8>, bool)> {
+/// Every row of up to so many levels, none above `highest`, with its fault: 6 by the words of section 4, 8 by those of T-04.
+pub fn level_rows(longest: usize, highest: u8) -> Vec<(Vec<u8>, Option<u8>)> {
     let mut rows: Vec<Vec<u8>> = vec![vec![]];
     let mut first = 0;
-    for _ in 0..6 {
+    for _ in 0..longest {
         let last = rows.len();
         for row in first..last {
-            rows.extend((0..4).map(|level| [&rows[row][..], &[level]].concat()).collect::<Vec<_>>());
+            rows.extend((0..=highest).map(|level| [&rows[row][..], &[level]].concat()).collect::<Vec<_>>());
         }
         first = last;
     }
-    rows[1..].iter().map(|row| (row.clone(), (1..=15).all(|grade| one_run(row, grade)))).collect()
+    rows[1..].iter().map(|row| (row.clone(), row_fault(row))).collect()
+}
+
+fn row_fault(levels: &[u8]) -> Option<u8> {
+    let peaked = (1..=15).all(|grade| one_run(levels, grade));
+    let nothing_allowed = levels.iter().all(|&level| level == 0);
+    if !peaked {
+        Some(6)
+    } else if nothing_allowed {
+        Some(8)
+    } else {
+        None
+    }
 }
 
 /// The distances at this grade or more are one unbroken run, or none.

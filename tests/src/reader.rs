@@ -1,4 +1,5 @@
-//! A plain reader of plan texts: document 01, sections 1 to 4. It stands beside the proved one in the tests and in the bench.
+//! A plain reader of plan texts: document 01, sections 1 to 4, with refusal 8 of request T-04. It stands beside the proved one in
+//! the tests and in the bench.
 use crate::plan::*;
 
 /// The number of the first fault, and its line; line 0 for the length of the text.
@@ -41,7 +42,7 @@ fn first_line(line: &[u8]) -> Result<Plan, u8> {
     Ok(Plan::new(events as usize, horizon))
 }
 
-/// The record of a line, or its first fault in the order 2, 3, 4, 5, 6.
+/// The record of a line, or its first fault in the order 2, 3, 4, 5, 6, 8.
 fn later_line(line: &[u8], plan: &Plan, levels_before: usize) -> Result<Record, u8> {
     let (word, numbers) = fields(line).ok_or(2)?;
     match (word, numbers.as_slice()) {
@@ -79,6 +80,9 @@ fn wish(plan: &Plan, levels_before: usize, a: i64, b: i64, low: i64, levels: &[i
     let levels: Vec<u8> = levels.iter().map(|&level| level as u8).collect();
     if !single_peaked(&levels) {
         return Err(6);
+    }
+    if levels.iter().all(|&level| level == 0) {
+        return Err(8);
     }
     Ok(Record::wish(a as usize, b as usize, low, levels))
 }

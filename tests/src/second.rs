@@ -1,4 +1,5 @@
-//! A second solver: every question of the ladder (document 01, section 6) is put by Bellman-Ford afresh.
+//! A second solver: every question of the ladder (document 01, section 6) is put by Bellman-Ford afresh. The first grade is part
+//! of the plan (request T-04).
 use crate::bounds::bounds;
 use crate::plan::{Plan, Record};
 
@@ -9,9 +10,9 @@ pub struct Solution {
 
 /// The best timetable with the least times, or none where there is no timetable.
 pub fn solve(plan: &Plan) -> Option<Solution> {
-    let mut cut = Plan { records: plan.records.iter().map(whole_span).collect(), ..*plan };
+    let mut cut = Plan { records: plan.records.iter().map(allowed).collect::<Option<_>>()?, ..*plan };
     earliest(&cut)?;
-    for grade in 1..=15 {
+    for grade in 2..=15 {
         for (number, wish) in plan.wishes() {
             let Some(cut_wish) = at_grade(wish, grade) else { continue };
             let before = std::mem::replace(&mut cut.records[number], cut_wish);
@@ -25,9 +26,13 @@ pub fn solve(plan: &Plan) -> Option<Solution> {
     Some(Solution { times, levels })
 }
 
-/// A record as a rule over all its distances.
-fn whole_span(record: &Record) -> Record {
-    Record::rule(record.start, record.end, record.low, record.high())
+/// A record as a rule over the distances that it allows; a wish allows those of level 1 or more.
+fn allowed(record: &Record) -> Option<Record> {
+    if record.is_wish() {
+        at_grade(record, 1)
+    } else {
+        Some(record.clone())
+    }
 }
 
 /// A wish as a rule over its distances at this grade or more, where it has some.

@@ -79,7 +79,7 @@ module _ {p : M.Plan} {list : List Entry} (w : WithoutFault p) (s : Listed p lis
       held {t} h k m (no l) = tried-keeps start-trying a t .0 h .1 k (omega arith) m
 
       all-from : {t : Times} → Keeps (p .events) (at d′) t → Timetable p t
-      all-from {t} h = holds-timetable (h .origin)
+      all-from {t} h = holds-timetable w (h .origin)
           (λ b g. let q = given-place s b g in subst (λ x. Holds t x) (q .is) (held h (q .place) (q .low) (decLt (q .place) (horizonCount p))))
 
       pub all-stands : Stands (p .events) (at d′) (Timetable p)

@@ -12,12 +12,15 @@ use mir.Syntax.{w32}
 use mir.Val.{SFits}
 use Rattle.ticks.proofs.Ticks.{ticks}
 use Rattle.meaning.specs.Plan as M
-use Rattle.meaning.specs.Bounds.{Bound, upper, lower, horizonUpper, horizonLower, recordBounds, horizonBounds}
-use Rattle.meaning.specs.Faultless.{GoodRecord}
+use Rattle.meaning.specs.Plan.{recordAt}
+use Rattle.meaning.specs.Bounds.{Bound, shortest, longest, upper, lower, horizonUpper, horizonLower, recordBounds, horizonBounds}
+use Rattle.meaning.proofs.Bounds.{good-ends}
 use Rattle.plan.specs.declared.Plan.{Plan}
 use Rattle.plan.specs.declared.Record.{Record as Row}
-use Rattle.plan.specs.Held.{rowOf, blank, Planned}
-use Rattle.plan.proofs.Use.{held-row}
+use Rattle.plan.specs.Held.{InMemory}
+use Rattle.plan.proofs.Use.{rowAt, held-row}
+use Rattle.cut.specs.Cut.{endsOf}
+use Rattle.cut.proofs.Cuts.{ends-are}
 use Rattle.chain.specs.declared.Bound.{Bound as Entry}
 use Rattle.chain.specs.Clash.{MOST-BOUNDS, boundOf, none, listed}
 use Rattle.bounds.specs.Listed.{Listed}
@@ -57,19 +60,19 @@ records-more k (r ∷ rs) (suc i) j e h = ap {B = List Bound} (λ l. upper k r �
 
 -- ---- a record as it stands in memory
 
--- its entries are its bounds
-pub entry-upper : (r : M.Record) {row : Row} (k : ℕ) → row ≡ rowOf (row .first) r → boundOf (upperEntry k row) ≡ upper k r
-entry-upper r k e = ap (λ (x : Row). boundOf (upperEntry k x)) e
+module _ {p : M.Plan} {h : Plan} {held : List ℕ} (o : InMemory p h held) (k : ℕ) where
+  -- the entries of its row are its bounds
+  pub entry-upper : boundOf (upperEntry k (rowAt h k) (endsOf (rowAt h k) held .hi)) ≡ upper k (recordAt p k)
+  entry-upper = rw (ends-are o k) (ap (λ (x : Row). boundOf (upperEntry k x (longest (recordAt p k)))) (held-row (o .holds) k))
 
-pub entry-lower : (r : M.Record) {row : Row} (k : ℕ) → row ≡ rowOf (row .first) r → boundOf (lowerEntry k row) ≡ lower k r
-entry-lower r k e = ap (λ (x : Row). boundOf (lowerEntry k x)) e
+  pub entry-lower : boundOf (lowerEntry k (rowAt h k) (endsOf (rowAt h k) held .lo)) ≡ lower k (recordAt p k)
+  entry-lower = rw (ends-are o k) (ap (λ (x : Row). boundOf (lowerEntry k x (shortest (recordAt p k)))) (held-row (o .holds) k))
 
--- the negative of its lo fits 32 bits
-low-fits : {n : ℕ} {r : M.Record} {row : Row} → GoodRecord n r → row ≡ rowOf (row .first) r → SFits w32 (negℤ (row .lo))
-low-fits {r = r} g e = rw e (omega (ticks, g .lowest, g .ordered, g .highest))
-
-pub row-fits : {h : Plan} → Planned h → (k : ℕ) → k < h .count → SFits w32 (negℤ (getD (h .records) k blank .lo))
-row-fits s k l = let m : k < length (s .plan .records) = omega (arith, s .holds .count) in low-fits (s .faultless .each k m) (held-row (s .holds) k)
+  -- the negative of its shortest distance fits 32 bits
+  pub low-fits : k < length (p .records) → SFits w32 (negℤ (endsOf (rowAt h k) held .lo))
+  low-fits l =
+      let g = good-ends (recordAt p k) (o .faultless .each k l) in
+      rw (ends-are o k) (omega (ticks, g .lowest, g .ordered, g .highest))
 
 -- ---- the two loops
 
@@ -102,10 +105,11 @@ records-none {list} {base} l f =
     let e : base + 0 ≡ base = omega arith in
     record { front = record { long = l; bounds = rw e (sym (append-nil (listed list base))); rest = λ k h. f k (omega arith) } }
 
-pub records-next : {list₀ list : List Entry} {base k : ℕ} {rs : List M.Record} (row : Row) →
-    RecordsSoFar list₀ base rs list k → k < length rs → base + 2 * k + 2 ≤ MOST-BOUNDS → row ≡ rowOf (row .first) (getD rs k M.nothing) →
-    RecordsSoFar list₀ base rs (set (set list (base + 2 * k) (upperEntry k row)) (base + 2 * k + 1) (lowerEntry k row)) (k + 1)
-records-next {list₀} {list} {base} {k} {rs} row f l room at =
+pub records-next : {list₀ list : List Entry} {base k : ℕ} {rs : List M.Record} (a b : Entry) →
+    RecordsSoFar list₀ base rs list k → k < length rs → base + 2 * k + 2 ≤ MOST-BOUNDS →
+    boundOf a ≡ upper k (getD rs k M.nothing) → boundOf b ≡ lower k (getD rs k M.nothing) →
+    RecordsSoFar list₀ base rs (set (set list (base + 2 * k) a) (base + 2 * k + 1) b) (k + 1)
+records-next {list₀} {list} {base} {k} {rs} a b f l room p q =
     let r = getD rs k M.nothing in
     record {
       front =
@@ -114,8 +118,7 @@ records-next {list₀} {list} {base} {k} {rs} row f l room at =
             records-more 0 rs k k (omega arith) l,
             ← append-assoc (listed list₀ base) (recordBounds 0 (take k rs)) (upper k r ∷ lower k r ∷ []),
           )
-          (front-two (base + 2 * suc k) (upperEntry k row) (lowerEntry k row) (f .front)
-          (omega arith) (omega arith) (entry-upper r k at) (entry-lower r k at));
+          (front-two (base + 2 * suc k) a b (f .front) (omega arith) (omega arith) p q);
     }
 
 pub records-all : {list₀ list : List Entry} {base k : ℕ} {rs : List M.Record} → RecordsSoFar list₀ base rs list k → k ≡ length rs →

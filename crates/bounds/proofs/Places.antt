@@ -11,9 +11,9 @@ use lib.IntN.{pos, negℤ}
 use Rattle.ticks.proofs.Ticks.{ticks, neg}
 use Rattle.meaning.specs.Plan as M
 use Rattle.meaning.specs.Plan.{MOST-END, Within}
-use Rattle.meaning.specs.Bounds.{Bound, recordBounds, horizonBounds}
+use Rattle.meaning.specs.Bounds.{Bound, shortest, recordBounds, horizonBounds}
 use Rattle.meaning.proofs.Bounds as B
-use Rattle.meaning.proofs.Bounds.{bound-placed, each-bound}
+use Rattle.meaning.proofs.Bounds.{bound-placed, each-bound, good-ends}
 use Rattle.meaning.specs.Faultless.{WithoutFault}
 use Rattle.chain.specs.declared.Bound.{Bound as Entry}
 use Rattle.chain.specs.Clash.{MOST-BOUNDS, boundOf, boundAt, listed, Fit, Given}
@@ -48,9 +48,9 @@ module _ (p : M.Plan) where
   -- their weights
   pub bound-weight : WithoutFault p → (b : Bound) → B.Given p b → Within (negℤ (pos MOST-END)) (b .weight) (pos MOST-END)
   bound-weight w = each-bound p (λ b. Within (negℤ (pos MOST-END)) (b .weight) (pos MOST-END))
-      (λ k h. let g = w .each k h in (
+      (λ k h. let g = good-ends (M.recordAt p k) (w .each k h) in (
         record { above = omega (ticks, g .lowest, g .ordered); below = g .highest },
-        record { above = omega (ticks, neg (M.low (M.recordAt p k)), g .ordered, g .highest); below = omega (ticks, g .lowest) },
+        record { above = omega (ticks, neg (shortest (M.recordAt p k)), g .ordered, g .highest); below = omega (ticks, g .lowest) },
       ))
       (λ e h l. (record { above = omega ticks; below = omega (ticks, w .near) }, record { above = omega ticks; below = omega ticks }))
 

@@ -9,8 +9,7 @@ ghost use mir.Val.{SFits};
 ghost use Rattle.meaning.specs.Plan as M;
 ghost use Rattle.meaning.specs.Plan.{MOST-EVENTS, MOST-HORIZON, MOST-RECORDS};
 ghost use Rattle.meaning.specs.Bounds.{horizonUpper, horizonLower, horizonBounds, recordBounds};
-ghost use Rattle.meaning.specs.Faultless.{WithoutFault};
-ghost use Rattle.plan.specs.Held.{Holds, Planned};
+ghost use Rattle.plan.specs.Held.{InMemory};
 ghost use Rattle.chain.specs.Clash.{boundOf, none, boundAt, listed};
 ghost use Rattle.bounds.specs.Listed.{Listed};
 ghost use Rattle.bounds.specs.Entries.{upperEntry, lowerEntry, Front, Appending};
@@ -58,24 +57,23 @@ fn horizon_lower(e: usize) -> Bound
     }
 }
 
-// The bounds of record k.
-fn record_upper(k: usize, r: Record) -> Bound
+// The bounds of record k, whose longest distance is hi and whose shortest is lo.
+fn record_upper(k: usize, r: Record, hi: i32) -> Bound
     requires { ⌜ k < MOST-RECORDS ⌝ }
-    ensures { λ b. ⌜ b ≡ upperEntry k r ⌝ }
+    ensures { λ b. ⌜ b ≡ upperEntry k r hi ⌝ }
 {
     Bound {
         start: r.a,
         end: r.b,
         code: widths::to_u16(2 * k),
-        weight: r.hi,
+        weight: hi,
     }
 }
 
-fn record_lower(k: usize, r: Record) -> Bound
-    requires { ⌜ (k < MOST-RECORDS) × SFits w32 (negℤ (r .lo)) ⌝ }
-    ensures { λ b. ⌜ b ≡ lowerEntry k r ⌝ }
+fn record_lower(k: usize, r: Record, lo: i32) -> Bound
+    requires { ⌜ (k < MOST-RECORDS) × SFits w32 (negℤ lo) ⌝ }
+    ensures { λ b. ⌜ b ≡ lowerEntry k r lo ⌝ }
 {
-    let lo = r.lo;
     let down = ticks::minus(lo);
     Bound {
         start: r.b,
@@ -100,27 +98,38 @@ fn horizon_bounds(n: usize, h: u32) -> [Bound; MOST_BOUNDS]
 }
 
 // The list with two bounds for each record behind the first `base`.
-fn with_records(list: [Bound; MOST_BOUNDS], base: usize, h: Plan) -> [Bound; MOST_BOUNDS]
-    requires { ⌜ Appending list base h ⌝ }
-    ensures { λ r. ⌜ ((p : M.Plan) → Holds p h
+fn with_records(
+    list: [Bound; MOST_BOUNDS],
+    base: usize,
+    h: Plan,
+    held: &[u8],
+) -> [Bound; MOST_BOUNDS]
+    requires { ⌜ Appending list base h (now held) ⌝ }
+    ensures { λ r. ⌜ ((p : M.Plan) → InMemory p h (now (held .entry))
         → Front r (base + 2 * length (p .records)) (listed list base ++ recordBounds 0 (p .records))) ⌝ }
 {
     let mut all = list;
     for k in 0..h.count {
         let r = h.records[k];
+        let ends = cut::ends_of(r, held);
         let i = base + 2 * k;
-        all[i] = record_upper(k, r);
-        all[i + 1] = record_lower(k, r);
+        all[i] = record_upper(k, r, ends.hi);
+        all[i + 1] = record_lower(k, r, ends.lo);
     }
     all
 }
 
 // The plan's bounds: the horizon's first, then those of the records.
-pub fn list_of(h: Plan) -> [Bound; MOST_BOUNDS]
-    requires { ⌜ Planned h ⌝ }
-    ensures { λ r. ⌜ ((p : M.Plan) → Holds p h → WithoutFault p → Listed p r) ⌝ }
+pub fn list_of(h: Plan, held: &[u8]) -> [Bound; MOST_BOUNDS]
+    requires { ⌜ ((p : M.Plan) × InMemory p h (now held)) ⌝ }
+    ensures { λ r. ⌜ ((p : M.Plan) → InMemory p h (now (held .entry)) → Listed p r) ⌝ }
 {
-    with_records(horizon_bounds(h.events, h.horizon), 2 * (h.events - 1), h)
+    with_records(
+        horizon_bounds(h.events, h.horizon),
+        2 * (h.events - 1),
+        h,
+        held,
+    )
 }
 
 // One bound; false where it leaves no timetable.

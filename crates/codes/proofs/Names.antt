@@ -14,6 +14,8 @@ use Rattle.meaning.specs.Faultless.{WithoutFault}
 use Rattle.plan.specs.declared.Record.{Record}
 use Rattle.plan.specs.declared.Plan.{Plan}
 use Rattle.plan.specs.Held.{rowOf}
+use Rattle.cut.specs.declared.Ends.{Ends}
+use Rattle.cut.specs.Cut.{allowed}
 use Rattle.codes.specs.Codes.{named, ofRecord, ofHorizon}
 
 -- ---- a code and the record or the event that it names
@@ -22,12 +24,12 @@ abbrev pub bound : ℕ → ℕ → ℤ → ℕ → Bound
 bound a b w c = record { start = a; end = b; weight = w; code = c }
 
 module _ (p : M.Plan) (c : ℕ) where
-  module _ (r : Record) (first : ℕ) (e : r ≡ rowOf first (recordAt p (c / 2))) where
-    pub name-upper : c % 2 ≡ 0 → bound (r .a) (r .b) (r .hi) c ≡ ofRecord p c
-    name-upper o = rw (eq-eqb (c % 2) 0 o, e) (ap (bound _ _ _) (omega arith))
+  module _ (r : Record) (first : ℕ) (e : r ≡ rowOf first (recordAt p (c / 2))) (ends : Ends) (f : ends ≡ allowed (recordAt p (c / 2))) where
+    pub name-upper : c % 2 ≡ 0 → bound (r .a) (r .b) (ends .hi) c ≡ ofRecord p c
+    name-upper o = rw (eq-eqb (c % 2) 0 o, e, f) (ap (bound _ _ _) (omega arith))
 
-    pub name-lower : (c % 2 ≡ 0 → ⊥) → bound (r .b) (r .a) (negℤ (r .lo)) c ≡ ofRecord p c
-    name-lower o = rw (ne-eqb (c % 2) 0 o, e) (ap (bound _ _ _) (omega arith))
+    pub name-lower : (c % 2 ≡ 0 → ⊥) → bound (r .b) (r .a) (negℤ (ends .lo)) c ≡ ofRecord p c
+    name-lower o = rw (ne-eqb (c % 2) 0 o, e, f) (ap (bound _ _ _) (omega arith))
 
   module _ (l : HORIZON-CODES ≤ c) where
     pub name-latest : c % 2 ≡ 0 → bound 0 ((c - HORIZON-CODES) / 2) (pos (p .horizon)) c ≡ ofHorizon p c

@@ -1,12 +1,13 @@
 // The bound that a code names.
 ghost use mathlib.Core.Path.{_≡_};
 ghost use Prim.Native.Nat.{ℕ, _/_, _≤_};
-ghost use lib.ListN.{length};
 ghost use Rattle.meaning.specs.Plan as M;
-ghost use Rattle.meaning.specs.Plan.{MOST-RECORDS, recordAt};
+ghost use Rattle.meaning.specs.Plan.{recordAt};
 ghost use Rattle.meaning.specs.Bounds.{HORIZON-CODES};
-ghost use Rattle.plan.specs.Held.{Holds, rowOf};
+ghost use Rattle.plan.specs.Held.{InMemory, rowOf};
+ghost use Rattle.cut.specs.Cut.{allowed};
 ghost use Rattle.codes.specs.Codes.{ofRecord, ofHorizon, named, numbersOf, stepNumbers};
+use cut::Ends;
 use plan::Plan;
 use plan::Record;
 
@@ -21,9 +22,10 @@ pub struct Step {
     pub code: i64,
 }
 
-// The step of a record's bound that a code names.
-fn of_record(r: Record, c: u16) -> Step
-    ensures { λ s. ⌜ ((p : M.Plan) (first : ℕ) → r ≡ rowOf first (recordAt p (c / 2)) → numbersOf s ≡ stepNumbers (ofRecord p c)) ⌝ }
+// The step of a record's bound that a code names; the record's distances are those from ends.lo to ends.hi.
+fn of_record(r: Record, ends: Ends, c: u16) -> Step
+    ensures { λ s. ⌜ ((p : M.Plan) (first : ℕ) → r ≡ rowOf first (recordAt p (c / 2)) → ends ≡ allowed (recordAt p (c / 2))
+        → numbersOf s ≡ stepNumbers (ofRecord p c)) ⌝ }
 {
     let a = widths::to_i64(widths::from_u8(r.a));
     let b = widths::to_i64(widths::from_u8(r.b));
@@ -32,14 +34,14 @@ fn of_record(r: Record, c: u16) -> Step
         return Step {
             from: a,
             to: b,
-            weight: widths::widen(r.hi),
+            weight: widths::widen(ends.hi),
             code: code,
         };
     }
     Step {
         from: b,
         to: a,
-        weight: ticks::minus_wide(r.lo),
+        weight: ticks::minus_wide(ends.lo),
         code: code,
     }
 }
@@ -68,13 +70,13 @@ fn of_horizon(horizon: u32, c: u16) -> Step
 }
 
 // The step that a code names.
-pub fn step_of(h: Plan, c: u16) -> Step
-    requires { ⌜ length (h .records) ≡ MOST-RECORDS ⌝ }
-    ensures { λ s. ⌜ ((p : M.Plan) → Holds p h → numbersOf s ≡ stepNumbers (named p c)) ⌝ }
+pub fn step_of(h: Plan, held: &[u8], c: u16) -> Step
+    requires { ⌜ ((p : M.Plan) × InMemory p h (now held)) ⌝ }
+    ensures { λ s. ⌜ ((p : M.Plan) → InMemory p h (now (held .entry)) → numbersOf s ≡ stepNumbers (named p c)) ⌝ }
 {
     if c < HORIZON_CODES {
-        let k = widths::from_u16(c / 2);
-        return of_record(h.records[k], c);
+        let r = h.records[widths::from_u16(c / 2)];
+        return of_record(r, cut::ends_of(r, held), c);
     }
     of_horizon(h.horizon, c)
 }

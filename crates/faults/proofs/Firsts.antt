@@ -1,4 +1,4 @@
--- Tests in a row: what is known where there is no fault, where the first test fails, and how the tests of a wish are those of a rule and two more.
+-- Tests in a row: what is known where there is no fault, where the first test fails, and how the tests of a wish are those of a rule and three more.
 use mathlib.Core.Path.{_≡_, refl, sym, _∙_}
 use mathlib.Core.Bool.{Bool, true, false, not, _&&_}
 use mathlib.Core.List.{List, [], _∷_}
@@ -10,12 +10,12 @@ use lib.IntN.{ℤ, pos}
 use lib.Signed.{leZ}
 use Rattle.meaning.specs.Plan.{MOST-EVENTS, MOST-HORIZON, MOST-RECORDS, MOST-LEVELS, MOST-LEVELS-TOGETHER}
 use Rattle.meaning.specs.Peak.{peaked}
-use Rattle.meaning.specs.Numbers.{OUT-OF-RANGE, SAME-EVENT, NOT-PEAKED}
+use Rattle.meaning.specs.Numbers.{OUT-OF-RANGE, SAME-EVENT, NOT-PEAKED, NOTHING-ALLOWED}
 use Rattle.meaning.specs.Reading.{between, isEvent, isEnd, inRange, sameEvent}
 use Rattle.meaning.proofs.Tests.{both, event-below, in-range}
 use Rattle.faults.specs.declared.SoFar.{SoFar}
 use Rattle.faults.specs.declared.Span.{Span}
-use Rattle.faults.specs.Faults.{NO-FAULT, unlessMet, firstFault, headFault, areLevels, hasRoom, recordFault, Fitting}
+use Rattle.faults.specs.Faults.{NO-FAULT, unlessMet, firstFault, headFault, areLevels, allowsAny, hasRoom, shapeFault, recordFault, Fitting}
 use Rattle.faults.proofs.Tests.{all-three, event-sign}
 
 pub only : (k : ℕ) → firstFault (k ∷ []) ≡ k
@@ -89,31 +89,36 @@ unfolding peaked
 flat = refl
 
 -- the tests of a record, each by its answer
-abbrev pub five : Bool → Bool → Bool → Bool → Bool → ℕ
-five x y l s u =
+abbrev pub six : Bool → Bool → Bool → Bool → Bool → Bool → ℕ
+six x y l s u w =
     firstFault (
     unlessMet x OUT-OF-RANGE
     ∷ unlessMet y OUT-OF-RANGE
     ∷ unlessMet l OUT-OF-RANGE
     ∷ unlessMet s SAME-EVENT
     ∷ unlessMet u NOT-PEAKED
+    ∷ unlessMet w NOTHING-ALLOWED
     ∷ [])
 
-levels-first : (x y l s u : Bool) → five x y l s u ≡ firstFault (unlessMet l OUT-OF-RANGE ∷ five x y true s true ∷ unlessMet u NOT-PEAKED ∷ [])
-levels-first false y false s u = refl
-levels-first true false false s u = refl
-levels-first true true false s u = refl
-levels-first false y true s u = refl
-levels-first true false true s u = refl
-levels-first true true true false u = refl
-levels-first true true true true u = refl
+levels-first : (x y l s u w : Bool)
+    → six x y l s u w
+    ≡ firstFault (unlessMet l OUT-OF-RANGE ∷ six x y true s true true ∷ firstFault (unlessMet u NOT-PEAKED ∷ unlessMet w NOTHING-ALLOWED ∷ []) ∷ [])
+levels-first false y false s u w = refl
+levels-first true false false s u w = refl
+levels-first true true false s u w = refl
+levels-first false y true s u w = refl
+levels-first true false true s u w = refl
+levels-first true true true false u w = refl
+levels-first true true true true false w = refl
+levels-first true true true true true false = refl
+levels-first true true true true true true = refl
 
 pub by-levels : (n : ℕ) (r : Span) (ls : List ℕ)
-    → recordFault n r ls ≡ firstFault (unlessMet (areLevels ls) OUT-OF-RANGE ∷ recordFault n r [] ∷ unlessMet (peaked ls) NOT-PEAKED ∷ [])
+    → recordFault n r ls ≡ firstFault (unlessMet (areLevels ls) OUT-OF-RANGE ∷ recordFault n r [] ∷ shapeFault ls ∷ [])
 unfolding recordFault
 by-levels n r ls =
-    rw flat (levels-first (inRange n (r .a) (r .b) (r .lo) (r .hi)) (leZ (r .lo) (r .hi)) (areLevels ls) (not (sameEvent (r .a) (r .b))) (peaked ls))
+    rw flat
+    (levels-first (inRange n (r .a) (r .b) (r .lo) (r .hi)) (leZ (r .lo) (r .hi)) (areLevels ls) (not (sameEvent (r .a) (r .b))) (peaked ls) (allowsAny ls))
 
 pub levelled : (n : ℕ) (r : Span) (ls : List ℕ) → recordFault n r ls ≡ NO-FAULT → areLevels ls ≡ true
-levelled n r ls e =
-    met (areLevels ls) OUT-OF-RANGE (recordFault n r [] ∷ unlessMet (peaked ls) NOT-PEAKED ∷ []) (omega arith) (sym (by-levels n r ls) ∙ e) .0
+levelled n r ls e = met (areLevels ls) OUT-OF-RANGE (recordFault n r [] ∷ shapeFault ls ∷ []) (omega arith) (sym (by-levels n r ls) ∙ e) .0

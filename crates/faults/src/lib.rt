@@ -1,21 +1,23 @@
-// The faults of a plan's records and of its first line: the tests of section 3, in their order, on numbers and on levels in memory.
+// The faults of a plan's records and of its first line: the tests of section 3 and of T-04, in their order, on numbers and on levels in memory.
 ghost use mathlib.Core.Path.{_≡_};
 ghost use mathlib.Core.Bool.{_&&_, _||_};
-ghost use mathlib.Core.List.{[]};
-ghost use Prim.Native.Nat.{_≤_};
+ghost use mathlib.Core.List.{[], _∷_};
+ghost use Prim.Native.Nat.{_≤_, _<_};
 ghost use lib.ListN.{length};
 ghost use lib.Seq.{slice};
 ghost use lib.Dec.{ltb};
 ghost use Rattle.meaning.specs.Plan.{MOST-EVENTS, MOST-LEVELS-TOGETHER};
 ghost use Rattle.meaning.specs.Peak.{peaked};
 ghost use Rattle.meaning.specs.Reading.{between, isEvent, isEnd, inRange};
-ghost use Rattle.faults.specs.Faults.{areLevels, hasRoom, headFault, recordFault};
+ghost use Rattle.faults.specs.Faults.{firstFault, areLevels, allowsAny, hasRoom, headFault, shapeFault, recordFault};
+use scope::LEAST_LEVEL;
 use scope::MOST_END;
 use scope::MOST_HORIZON;
 use scope::MOST_LEVELS;
 use scope::MOST_LEVELS_TOGETHER;
 use scope::MOST_RECORDS;
 use scope::NOT_PEAKED;
+use scope::NOTHING_ALLOWED;
 use scope::OUT_OF_RANGE;
 use scope::SAME_EVENT;
 
@@ -132,6 +134,14 @@ fn is_peaked(levels: &[u8], at: usize, end: usize) -> bool
     true
 }
 
+// Some distance of the wish whose levels stand from at up to end is allowed.
+fn allows_any(levels: &[u8], at: usize, end: usize) -> bool
+    requires { ⌜ (at < end) × (end ≤ length (now levels)) ⌝ }
+    ensures { λ r. ⌜ r ≡ allowsAny (slice at end (now (levels .entry))) ⌝ }
+{
+    cut::run_first(levels, at, end, LEAST_LEVEL) < end
+}
+
 // ---- the faults
 
 // One record more, with m levels, is within the limits of their numbers.
@@ -180,21 +190,37 @@ pub fn rule_fault(n: usize, span: Span) -> u8
     }
 }
 
+// The first fault of the levels from at up to end by the shape of their row: it is single-peaked, and not all 0.
+fn shape_fault(levels: &[u8], at: usize, end: usize) -> u8
+    requires { ⌜ (at < end) × (end ≤ length (now levels)) ⌝ }
+    ensures { λ r. ⌜ r ≡ shapeFault (slice at end (now (levels .entry))) ⌝ }
+{
+    if !is_peaked(levels, at, end) {
+        return NOT_PEAKED;
+    }
+    if allows_any(levels, at, end) {
+        NO_FAULT
+    } else {
+        NOTHING_ALLOWED
+    }
+}
+
+// The first of two faults.
+fn first_of(one: u8, other: u8) -> u8
+    ensures { λ r. ⌜ r ≡ firstFault (one ∷ other ∷ []) ⌝ }
+{
+    if one == NO_FAULT { other } else { one }
+}
+
 // The first fault of a wish, whose levels stand from at up to end.
 pub fn wish_fault(n: usize, span: Span, levels: &[u8], at: usize, end: usize) -> u8
-    requires { ⌜ (n ≤ MOST-EVENTS) × (at ≤ end) × (end ≤ length (now levels)) ⌝ }
+    requires { ⌜ (n ≤ MOST-EVENTS) × (at < end) × (end ≤ length (now levels)) ⌝ }
     ensures { λ r. ⌜ r ≡ recordFault n span (slice at end (now (levels .entry))) ⌝ }
 {
     if !are_levels(levels, at, end) {
         return OUT_OF_RANGE;
     }
-    let fault = rule_fault(n, span);
-    if fault != NO_FAULT {
-        return fault;
-    }
-    if is_peaked(levels, at, end) {
-        NO_FAULT
-    } else {
-        NOT_PEAKED
-    }
+    let numbers = rule_fault(n, span);
+    let shape = shape_fault(levels, at, end);
+    first_of(numbers, shape)
 }

@@ -9,7 +9,7 @@ ghost use Rattle.meaning.specs.Plan.{wishes, MOST-EVENTS, MOST-RECORDS, MOST-BY
 ghost use Rattle.meaning.specs.Outcome.{solved, none, refusal};
 ghost use Rattle.meaning.specs.Faultless.{WithoutFault};
 ghost use Rattle.meaning.specs.Known.{bytes};
-ghost use Rattle.plan.specs.Held.{Holds};
+ghost use Rattle.plan.specs.Held.{Holds, InMemory};
 ghost use Rattle.print.specs.Lines.{line};
 ghost use Rattle.codes.specs.Codes.{numbersOf};
 ghost use Rattle.forms.specs.Printed.{atLines, levelLines, stepLines, printed};
@@ -90,14 +90,14 @@ fn put_step(out: &mut [u8], at: usize, s: Step) -> usize
 }
 
 // The lines `step` of the first codes of a chain; the place after them.
-fn step_lines(out: &mut [u8], at: usize, h: Plan, chain: &[u16], steps: usize) -> usize
-    requires { ⌜ (at + STEP-ROOM * steps ≤ length (now out)) × (steps ≤ length (now chain)) × ((p : M.Plan) × Holds p h) ⌝ }
-    ensures { λ r. ⌜ ((p : M.Plan) → Holds p h
+fn step_lines(out: &mut [u8], at: usize, h: Plan, held: &[u8], chain: &[u16], steps: usize) -> usize
+    requires { ⌜ (at + STEP-ROOM * steps ≤ length (now out)) × (steps ≤ length (now chain)) × ((p : M.Plan) × InMemory p h (now held)) ⌝ }
+    ensures { λ r. ⌜ ((p : M.Plan) → InMemory p h (now (held .entry))
         → Put (now (out .entry)) (now (out .exit)) at r (STEP-ROOM * steps) (stepLines p (take steps (now (chain .entry))))) ⌝ }
 {
     let mut next = at;
     for i in 0..steps {
-        next = put_step(out, next, codes::step_of(h, chain[i]));
+        next = put_step(out, next, codes::step_of(h, held, chain[i]));
     }
     next
 }
@@ -117,13 +117,14 @@ pub fn put_refused(out: &mut [u8], number: u8, line: usize) -> usize
 }
 
 // The form of a chain of so many steps.
-pub fn put_none(out: &mut [u8], h: Plan, chain: &[u16], steps: usize) -> usize
-    requires { ⌜ (AREA ≤ length (now out)) × (steps ≤ length (now chain)) × (steps ≤ MOST-EVENTS) × ((p : M.Plan) × Holds p h) ⌝ }
-    ensures { λ r. ⌜ ((p : M.Plan) → Holds p h → Put (now (out .entry)) (now (out .exit)) 0 r AREA (printed p (none (take steps (now (chain .entry)))))) ⌝ }
+pub fn put_none(out: &mut [u8], h: Plan, held: &[u8], chain: &[u16], steps: usize) -> usize
+    requires { ⌜ (AREA ≤ length (now out)) × (steps ≤ length (now chain)) × (steps ≤ MOST-EVENTS) × ((p : M.Plan) × InMemory p h (now held)) ⌝ }
+    ensures { λ r. ⌜ ((p : M.Plan) → InMemory p h (now (held .entry))
+        → Put (now (out .entry)) (now (out .exit)) 0 r AREA (printed p (none (take steps (now (chain .entry)))))) ⌝ }
 {
     let row = [widths::to_i64(steps)];
     let next = print::put_line(out, 0, b"none", &row);
-    step_lines(out, next, h, chain, steps)
+    step_lines(out, next, h, held, chain, steps)
 }
 
 // The form of the times and the levels of a plan with w wishes.

@@ -1,5 +1,4 @@
 -- The laws that belong to no one function.
-pub mod Runs
 pub mod Asks
 pub mod Stages
 pub mod Grades

@@ -1,4 +1,5 @@
--- The climb record by record: what the functions do to the matrix and to the levels is a step of the ladder.
+-- The climb record by record: what the functions do to the matrix and to the levels is a step of the ladder. By the record: a rule,
+-- a wish that failed before, a question answered yes or no.
 use mathlib.Core.Path.{_≡_, refl, sym, ap, _∙_}
 use mathlib.Core.Bool.{Bool, true, false}
 use mathlib.Core.List.{List}
@@ -8,28 +9,29 @@ use native.Mathlib.Decide.{ℕ-discrete}
 use native.Mathlib.Numerals.{add-one}
 use native.Mathlib.Omega.{arith}
 use lib.ListN.{length, getD, set}
-use lib.Seq.{slice}
 use lib.IntN.{ℤ, pos, _+ℤ_, _-ℤ_}
 use Rattle.meaning.specs.Plan as M
 use Rattle.meaning.specs.Plan.{recordAt, Times, Within, TOP-LEVEL}
 use Rattle.meaning.specs.Distances.{earliest, Stands}
-use Rattle.meaning.specs.Run.{Run}
+use Rattle.meaning.specs.Run.{runFirst, runPast}
 use Rattle.meaning.specs.Faultless.{GoodRecord}
 use Rattle.meaning.specs.Climb.{number, ClimbedTo}
 use Rattle.meaning.proofs.Stands.{stands-same, stands-earliest}
 use Rattle.meaning.proofs.Solve.{Between}
+use Rattle.meaning.proofs.Runs.{Run, run-is}
 use Rattle.meaning.proofs.Over.{over-at, over-set}
 use Rattle.meaning.proofs.Wishes.{wish-number, wish-below, next-wish, next-rule, climb-rule, climb-failed, climb-yes, climb-within, climb-no, climb-next}
 use Rattle.plan.specs.declared.Record.{Record}
 use Rattle.plan.specs.declared.Plan.{Plan}
-use Rattle.plan.specs.Held.{levelsIn, rowOf, blank}
+use Rattle.plan.specs.Held.{levelsIn, rowOf, levelsAt, blank, InMemory}
 use Rattle.plan.proofs.Use.{row-held}
+use Rattle.cut.specs.Cut.{Cutting}
+use Rattle.cut.proofs.Cuts.{cutting}
 use Rattle.distances.specs.Matrix.{at, Net, Narrowing, Narrowed}
 use Rattle.distances.proofs.Net.{narrowed-means, narrowed-none}
 use Rattle.distances.proofs.Rows.{beside-then, narrowed-beside}
-use Rattle.ladder.specs.Memory.{InMemory}
-use Rattle.ladder.specs.Climbing.{Asking, WishAnswered, WishClimbed, RecordAsking, RecordClimbed, Stage, Grading, Graded}
-use Rattle.ladder.proofs.Asks.{narrowing}
+use Rattle.ladder.specs.Climbing.{WishAnswered, WishClimbed, RecordAsking, RecordClimbed, Stage, Grading, Graded}
+use Rattle.ladder.proofs.Asks.{wish-narrowing}
 
 -- ---- the matrix held to a run
 
@@ -53,27 +55,14 @@ same-grades s c = record { grades = s .grades; climbed = c; written = s .written
 
 module _ {p : M.Plan} {g k : ℕ} {old d : List ℤ} {before levels : List ℕ}
     (s : Stage p g k old d before levels) (l : k < length (p .records)) (held : List ℕ) (first : ℕ) where
-  wish-asking : {a b : ℕ} {lo : ℤ} {ls : List ℕ} → GoodRecord (p .events) (M.wish a b lo ls) → first + length ls ≤ length held →
-      Asking (p .events) (rowOf first (M.wish a b lo ls)) held (suc g) d
-  wish-asking q room = record {
-    horizon = p .horizon;
-    net = s .net;
-    from = q .starts;
-    to = q .ends;
-    low = q .lowest;
-    high = q .highest;
-    some = q .levelled .some;
-    few = q .levelled .few;
-    inside = room;
-    grade = omega arith;
-  }
-
   record-asking : (m : M.Record) → recordAt p k ≡ m → GoodRecord (p .events) m → length (p .records) ≤ length levels →
-      first + length (levelsIn m) ≤ length held →
+      Cutting (rowOf first m) held → levelsAt (rowOf first m) held ≡ levelsIn m →
       RecordAsking (p .events) (rowOf first m) held (suc g) (number p k) d levels
-  record-asking (M.rule a b lo hi) e q few room = record { asking = λ z. absurd (not-suc-le-zero z); inside = λ z. absurd (not-suc-le-zero z) }
-  record-asking (M.wish a b lo ls) e q few room =
-      record { asking = λ z. wish-asking q room; inside = λ z. omega (arith, wish-below (p .records) k l e) }
+  record-asking (M.rule a b lo hi) e q few cut same = record { asking = λ z. absurd (not-suc-le-zero z); inside = λ z. absurd (not-suc-le-zero z) }
+  record-asking (M.wish a b lo ls) e q few cut same = record {
+    asking = λ z. record { cutting = cut; narrowing = rw same (wish-narrowing (suc g) q (s .net)); grade = omega arith };
+    inside = λ z. omega (arith, wish-below (p .records) k l e);
+  }
 
   -- the wish that is record k
   module _ {a b : ℕ} {lo : ℤ} {ls : List ℕ} (e : recordAt p k ≡ M.wish a b lo ls) (q : GoodRecord (p .events) (M.wish a b lo ls)) (top : g < TOP-LEVEL) where
@@ -90,22 +79,24 @@ module _ {p : M.Plan} {g k : ℕ} {old d : List ℤ} {before levels : List ℕ}
     not-asked : (getD levels (number p k) 0 ≡ suc g - 1 → ⊥) → Stage p g (suc k) old d before levels
     not-asked f = same-grades s (climb-failed p (s .climbed) l e (omega (arith, at-most, grade-is, f)))
 
-    answered : {d′ : List ℤ} {levels′ : List ℕ} → slice first (first + length ls) held ≡ ls → first + length ls ≤ length held →
+    run : Run (suc g) ls (runFirst (suc g) ls) (runPast (suc g) ls)
+    run = run-is (suc g) (omega arith) ls
+
+    answered : {d′ : List ℤ} {levels′ : List ℕ} → levelsAt (rowOf first (M.wish a b lo ls)) held ≡ ls →
         WishAnswered (p .events) (rowOf first (M.wish a b lo ls)) held (suc g) (number p k) d d′ levels levels′ → Stage p g (suc k) old d′ before levels′
-    answered {d′} {levels′} same room r = go (r .answer) refl (rw same at (r .asked .run)) (r .asked .narrowed)
+    answered {d′} {levels′} same r = go (r .answer) refl (rw same at (r .asked))
       where
-        first′ : ℕ
-        first′ = r .asked .first
+        low : ℤ
+        low = lo +ℤ pos (runFirst (suc g) ls)
 
-        past : ℕ
-        past = r .asked .past
+        high : ℤ
+        high = lo +ℤ pos (runPast (suc g) ls) -ℤ pos 1
 
-        asked : Narrowing (p .events) a b (lo +ℤ pos first′) (lo +ℤ pos past -ℤ pos 1) d
-        asked = narrowing (wish-asking q room) (r .asked .run)
+        asked : Narrowing (p .events) a b low high d
+        asked = wish-narrowing (suc g) q (s .net)
 
-        go : (t : Bool) → r .answer ≡ t → Run (suc g) ls first′ past →
-            Narrowed (p .events) a b (lo +ℤ pos first′) (lo +ℤ pos past -ℤ pos 1) d d′ t → Stage p g (suc k) old d′ before levels′
-        go true z run n =
+        go : (t : Bool) → r .answer ≡ t → Narrowed (p .events) a b low high d d′ t → Stage p g (suc k) old d′ before levels′
+        go true z n =
             let held-to = narrowed-stands (s .stands) (s .net) asked n in
             let u = stands-earliest (s .net .some) held-to in
             record {
@@ -116,28 +107,28 @@ module _ {p : M.Plan} {g k : ℕ} {old d : List ℤ} {before levels : List ℕ}
               stands = stands-same held-to (climb-within p (s .climbed) l e run (q .levelled .peaked) top);
               beside = beside-then (s .beside) (narrowed-beside n);
             }
-        go false z run n =
+        go false z n =
             rw (n .refused refl, r .stays z)
             (same-grades s (climb-no p (s .climbed) l e run (q .levelled .peaked) top (λ t x i. narrowed-nothing (s .stands) asked n t x i)))
 
-    wish-next : {d′ : List ℤ} {levels′ : List ℕ} → slice first (first + length ls) held ≡ ls → first + length ls ≤ length held →
+    wish-next : {d′ : List ℤ} {levels′ : List ℕ} → levelsAt (rowOf first (M.wish a b lo ls)) held ≡ ls →
         WishClimbed (p .events) (rowOf first (M.wish a b lo ls)) held (suc g) (number p k) d d′ levels levels′ → Stage p g (suc k) old d′ before levels′
-    wish-next {d′} {levels′} same room c = go (ℕ-discrete (getD levels (number p k) 0) (suc g - 1))
+    wish-next {d′} {levels′} same c = go (ℕ-discrete (getD levels (number p k) 0) (suc g - 1))
       where
         go : Dec (getD levels (number p k) 0 ≡ suc g - 1) → Stage p g (suc k) old d′ before levels′
-        go (yes i) = answered same room (c .climbing i)
+        go (yes i) = answered same (c .climbing i)
         go (no i) = rw (c .stopped i .0, c .stopped i .1) (not-asked i)
 
   record-next : {d′ : List ℤ} {levels′ : List ℕ} {r : ℕ} → g < TOP-LEVEL → (m : M.Record) → recordAt p k ≡ m → GoodRecord (p .events) m →
-      slice first (first + length (levelsIn m)) held ≡ levelsIn m → first + length (levelsIn m) ≤ length held →
+      levelsAt (rowOf first m) held ≡ levelsIn m →
       RecordClimbed (p .events) (rowOf first m) held (suc g) (number p k) d d′ levels levels′ r →
       Stage p g (suc k) old d′ before levels′ × (r ≡ number p (suc k))
-  record-next top (M.rule a b lo hi) e q same room c =
+  record-next top (M.rule a b lo hi) e q same c =
       let z = c .rule refl in
       (rw (z .0, z .1) (same-grades s (climb-rule p (s .climbed) l e)), z .2 ∙ sym (next-rule (p .records) k l e))
-  record-next top (M.wish a b lo ls) e q same room c =
+  record-next top (M.wish a b lo ls) e q same c =
       let z = c .wish (q .levelled .some) in
-      (wish-next e q top same room (z .0), z .1 ∙ omega (arith, next-wish (p .records) k l e))
+      (wish-next e q top same (z .0), z .1 ∙ omega (arith, next-wish (p .records) k l e))
 
 -- ---- one grade: k records of it are done, w of them wishes
 
@@ -167,10 +158,10 @@ module _ {h : Plan} {held : List ℕ} {y k w n : ℕ} {d₀ d : List ℤ} {level
       let o = asked .memory in
       let s = u .stage o (asked .next) (asked .stage) in
       let i : k < length (asked .plan .records) = omega (arith, o .holds .count) in
-      let x = row-held held (o .holds) (o .faultless) (o .room) (o .levels) k i in
+      let x = row-held o k i in
       asking-as (events ∙ o .holds .events) (x .row) (asked .next) (s .1)
       (record-asking (s .0) i held (getD (h .records) k blank .first) (recordAt (asked .plan) k) refl (o .faultless .each k i)
-      (omega (arith, o .faultless .few, asked .room, u .long)) (x .inside))
+      (omega (arith, o .faultless .few, asked .room, u .long)) (rw (x .row) at (cutting o k)) (rw (x .row) at (x .levels)))
 
   pub upto-next : {d′ : List ℤ} {levels′ : List ℕ} {r : ℕ} → RecordClimbed n (getD (h .records) k blank) held y w d d′ levels levels′ r →
       length d′ ≡ length d → length levels′ ≡ length levels → Upto h held y (k + 1) r d₀ d′ levels₀ levels′
@@ -181,10 +172,10 @@ module _ {h : Plan} {held : List ℕ} {y k w n : ℕ} {d₀ d : List ℤ} {level
       next {p} o e s₀ =
           let s = u .stage o e s₀ in
           let i : k < length (p .records) = omega (arith, o .holds .count) in
-          let x = row-held held (o .holds) (o .faultless) (o .room) (o .levels) k i in
+          let x = row-held o k i in
           rw (add-one k)
           (record-next (s .0) i held (getD (h .records) k blank .first) (omega (arith, asked .top)) (recordAt p k) refl (o .faultless .each k i)
-          (x .levels) (x .inside) (climbed-as (events ∙ o .holds .events) (x .row) e (s .1) c))
+          (rw (x .row) at (x .levels)) (climbed-as (events ∙ o .holds .events) (x .row) e (s .1) c))
 
 pub upto-all : {h : Plan} {held : List ℕ} {y k w : ℕ} {d₀ d : List ℤ} {levels₀ levels : List ℕ} →
     Upto h held y k w d₀ d levels₀ levels → h .count ≤ k → Graded h held y d₀ d levels₀ levels

@@ -8,8 +8,8 @@ use Rattle.meaning.specs.Plan.{Times, Timetable, levels, wishes}
 use Rattle.meaning.specs.Outcome.{BestTimes, over}
 use Rattle.meaning.specs.Distances.{Stands}
 use Rattle.plan.specs.declared.Plan.{Plan}
+use Rattle.plan.specs.Held.{InMemory}
 use Rattle.distances.specs.Matrix.{at, Net, Beside}
-use Rattle.ladder.specs.Memory.{InMemory}
 
 -- a plan without fault in memory, and the matrix of its timetables
 pub record Ready (p : M.Plan) (h : Plan) (held : List ℕ) (d : List ℤ) : Type 0 where

@@ -1,77 +1,34 @@
--- What the functions of the climb ask of one another: the run of a grade in the area of all levels, one question, one grade.
+-- What the functions of the climb ask of one another: one question, one grade, and where the climb begins.
 use mathlib.Core.Path.{_≡_}
 use mathlib.Core.Bool.{Bool, true, false}
 use mathlib.Core.List.{List}
 use Prim.Native.Nat.{ℕ, suc, _+_, _-_, _≤_, _<_}
 use lib.ListN.{length, getD, set, replicate}
-use lib.Seq.{slice}
-use lib.IntN.{ℤ, pos, negℤ, _+ℤ_, _-ℤ_}
-use lib.Signed.{_≤ℤ_}
+use lib.IntN.{ℤ}
 use Rattle.meaning.specs.Plan as M
-use Rattle.meaning.specs.Plan.{Within, MOST-END, MOST-LEVELS, MOST-RECORDS, TOP-LEVEL, wishes}
+use Rattle.meaning.specs.Plan.{MOST-RECORDS, TOP-LEVEL, LEAST-LEVEL, wishes}
 use Rattle.meaning.specs.Outcome.{over}
 use Rattle.meaning.specs.Faultless.{WithoutFault}
-use Rattle.meaning.specs.Run.{Run}
 use Rattle.meaning.specs.Distances.{Stands}
 use Rattle.meaning.specs.Climb.{ClimbedTo, Left}
 use Rattle.plan.specs.declared.Record.{Record}
 use Rattle.plan.specs.declared.Plan.{Plan}
-use Rattle.plan.specs.Held.{Holds}
-use Rattle.distances.specs.Matrix.{at, Net, Beside, Narrowed}
-use Rattle.ladder.specs.Memory.{InMemory}
+use Rattle.plan.specs.Held.{Holds, InMemory}
+use Rattle.cut.specs.Cut.{Cutting, runOf}
+use Rattle.distances.specs.Matrix.{at, Net, Beside, Narrowing, Narrowed}
 use Rattle.ladder.specs.Climbed.{Ready}
 
--- ---- the run of a grade, from place `at` up to `end`
+-- ---- one question: has the wish of row x grade y or more in some timetable left?
 
-pub record Span (held : List ℕ) (at end : ℕ) : Type 0 where
-  pub ordered : at ≤ end
-  pub inside : end ≤ length held
-
--- the levels from place `from` up to `to` are below y
-pub record Under (held : List ℕ) (from to y : ℕ) : Type 0 where
-  pub each : (k : ℕ) → from ≤ k → k < to → getD held k 0 < y
-
-pub record RunFirst (held : List ℕ) (at end y r : ℕ) : Type 0 where
-  pub low : at ≤ r
-  pub high : r ≤ end
-  pub before : Under held at r y
-  pub starts : r < end → y ≤ getD held r 0
-
-pub record RunPast (held : List ℕ) (at end y r : ℕ) : Type 0 where
-  pub low : at ≤ r
-  pub high : r ≤ end
-  pub after : Under held r end y
-  pub ends : at < r → y ≤ getD held (r - 1) 0
-
--- ---- one question: has the wish of record x grade y or more in some timetable left?
-
--- the k-th distance from lo on
-pub record Reach (lo : ℤ) (k : ℕ) : Type 0 where
-  pub ends : Within (negℤ (pos MOST-END)) lo (pos MOST-END)
-  pub few : k ≤ MOST-LEVELS
-
+-- the row can be cut, and the run of the grade is near enough
 pub record Asking (n : ℕ) (x : Record) (held : List ℕ) (y : ℕ) (d : List ℤ) : Type 0 where
-  pub horizon : ℕ
-  pub net : Net n horizon d
-  pub from : x .a < n
-  pub to : x .b < n
-  pub low : negℤ (pos MOST-END) ≤ℤ x .lo
-  pub high : ((x .lo +ℤ pos (x .count)) -ℤ pos 1) ≤ℤ pos MOST-END
-  pub some : 1 ≤ x .count
-  pub few : x .count ≤ MOST-LEVELS
-  pub inside : x .first + x .count ≤ length held
+  pub cutting : Cutting x held
+  pub narrowing : Narrowing n (x .a) (x .b) (runOf x held y .lo) (runOf x held y .hi) d
   pub grade : 1 ≤ y
 
--- the wish's levels
-abbrev pub levelsAt : Record → List ℕ → List ℕ
-levelsAt x held = slice (x .first) (x .first + x .count) held
-
--- the run of the grade is what its distance was held to
-pub record Asked (n : ℕ) (x : Record) (held : List ℕ) (y : ℕ) (d d′ : List ℤ) (r : Bool) : Type 0 where
-  pub first : ℕ
-  pub past : ℕ
-  pub run : Run y (levelsAt x held) first past
-  pub narrowed : Narrowed n (x .a) (x .b) (x .lo +ℤ pos first) ((x .lo +ℤ pos past) -ℤ pos 1) d d′ r
+-- the distance is held to the run of the grade
+abbrev pub Asked : ℕ → Record → List ℕ → ℕ → List ℤ → List ℤ → Bool → Type 0
+Asked n x held y d d′ r = Narrowed n (x .a) (x .b) (runOf x held y .lo) (runOf x held y .hi) d d′ r
 
 -- ---- one wish at grade y: it is asked only where its grade so far is the one before
 
@@ -121,15 +78,15 @@ pub record Graded (h : Plan) (held : List ℕ) (y : ℕ) (d d′ : List ℤ) (le
   pub graded : {p : M.Plan} {g : ℕ} {old : List ℤ} {before : List ℕ} → InMemory p h held → y ≡ suc g →
       Stage p g 0 old d before levels → Stage p y 0 old d′ before levels′
 
--- ---- before the climb every wish is at grade 0
+-- ---- before the climb every wish is at the least level, which is part of the plan
 
-pub record RecordCleared (x : Record) (w : ℕ) (before after : List ℕ) (r : ℕ) : Type 0 where
+pub record RecordBegun (x : Record) (w : ℕ) (before after : List ℕ) (r : ℕ) : Type 0 where
   pub rule : x .count ≡ 0 → (after ≡ before) × (r ≡ w)
-  pub wish : 0 < x .count → (after ≡ set before w 0) × (r ≡ w + 1)
+  pub wish : 0 < x .count → (after ≡ set before w LEAST-LEVEL) × (r ≡ w + 1)
 
-pub record GradesCleared (h : Plan) (before after : List ℕ) (r : ℕ) : Type 0 where
+pub record GradesBegun (h : Plan) (before after : List ℕ) (r : ℕ) : Type 0 where
   pub count : {p : M.Plan} → Holds p h → WithoutFault p → r ≡ wishes p
-  pub written : {p : M.Plan} → Holds p h → WithoutFault p → after ≡ over (replicate (wishes p) 0) before
+  pub written : {p : M.Plan} → Holds p h → WithoutFault p → after ≡ over (replicate (wishes p) LEAST-LEVEL) before
 
 -- ---- all grades
 

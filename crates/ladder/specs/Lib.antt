@@ -1,4 +1,3 @@
 -- What the contracts of `ladder` cite.
-pub mod Memory
 pub mod Climbed
 pub mod Climbing

@@ -79,7 +79,7 @@ module _ (l : Line) (vs : List ℤ) (n : Numbered vs l) (s : SoFar) (room : Room
       let r = spanOf (l .fields) in
       rw (← n .count, ← n .at 0 (omega arith), ← n .at 1 (omega arith), ← n .at 2 (omega arith), ← n .at 3 (omega arith))
       (J.later-step (l .number) (eqb (l .count) 4) p (ruleLine (r .a) (r .b) (r .lo) (r .hi)) (entryFault s r []) (withRecord p rule-entry) refl
-      (J.rule-later p s k r (room .levels)))
+      (λ _. J.rule-later p s k r (room .levels)))
 
   pub rule-says : (area : List ℕ) → Says (l .number) (ruleForm vs) (s .events) (s .records) (s .levels) area area (ruleEffect l s)
   unfolding ruleEffect
@@ -133,7 +133,7 @@ module _ (vs : List ℤ) (l : Line) (n : Numbered vs l) (s : SoFar) (before afte
       let form = wishLine (item (l .fields) 0) (item (l .fields) 1) (item (l .fields) 2) ls in
       rw (← n .count, ← n .at 0 (omega arith), ← n .at 1 (omega arith), ← n .at 2 (omega arith))
       (J.later-step (l .number) (leb 4 (l .count)) p form (entryFault s span levels) (withRecord p wish-entry) refl
-      (rw (← many) (J.wish-later p s k (l .fields) ls)))
+      (λ four. rw (← many) (J.wish-later p s k (l .fields) ls (omega (arith, many, leb-true 4 (l .count) four)))))
 
   module _ (formed : isWish l ≡ true) (room : hasRoom s m ≡ true) (word : isWishWord (l .word) ≡ true) where
     fits : s .levels + m ≤ MOST-LEVELS-TOGETHER

@@ -1,5 +1,5 @@
 -- What a line does to the plan read so far, from what its tests give: the faults by the tests in their order are those of `lineStep`.
-use mathlib.Core.Path.{_≡_, refl, sym, ap}
+use mathlib.Core.Path.{_≡_, refl}
 use mathlib.Core.Bool.{Bool, true, false, cond, _&&_, not}
 use mathlib.Core.List.{List, [], _∷_, map}
 use Prim.Native.Nat.{ℕ, zero, suc, _+_, _≤_}
@@ -13,16 +13,17 @@ use Rattle.meaning.specs.Plan as M
 use Rattle.meaning.specs.Plan.{MOST-EVENTS, MOST-HORIZON, MOST-RECORDS, MOST-LEVELS, MOST-LEVELS-TOGETHER}
 use Rattle.meaning.specs.Peak.{peaked}
 use Rattle.meaning.specs.Reading.{item, Form, eventsLine, ruleLine, wishLine, wrong, Step, taken, fault, unless, lineStep, firstLine, laterLine}
-use Rattle.meaning.specs.Reading.{withRecord, between, inRange, sameEvent, allLevels, lastOf, levelsTogether}
-use Rattle.meaning.specs.Numbers.{WRONG-FORM, TOO-MANY, OUT-OF-RANGE, SAME-EVENT, NOT-PEAKED}
+use Rattle.meaning.specs.Reading.{withRecord, between, inRange, sameEvent, allLevels, allZero, lastOf, levelsTogether}
+use Rattle.meaning.specs.Numbers.{WRONG-FORM, TOO-MANY, OUT-OF-RANGE, SAME-EVENT, NOT-PEAKED, NOTHING-ALLOWED}
 use Rattle.faults.specs.declared.SoFar.{SoFar}
 use Rattle.faults.specs.declared.Span.{Span}
 use Rattle.line.specs.declared.Effect.{Effect}
 use Rattle.line.specs.declared.Effect.the-variants.{Fault}
 use Rattle.line.specs.Lines.{Says, Counts}
-use Rattle.faults.specs.Faults.{NO-FAULT, unlessMet, firstFault, headFault, hasRoom, recordFault, entryFault}
+use Rattle.faults.specs.Faults.{NO-FAULT, unlessMet, firstFault, headFault, hasRoom, allowsAny, recordFault, entryFault}
 use Rattle.line.specs.Effects.{levelOf, wishSpan, gives}
-use Rattle.faults.proofs.Firsts.{only, flat, five}
+use Rattle.faults.proofs.Firsts.{only, flat, six}
+use Rattle.faults.proofs.Allowed.{allows-wish}
 use Rattle.line.proofs.Wishes.{range-last, order-last, levels-as, levels-same}
 
 pub step-wrong : (line : ℕ) (p : M.Plan) → lineStep line p wrong ≡ fault WRONG-FORM
@@ -56,29 +57,34 @@ head-first n h =
     head-tests (between (pos 1) (pos MOST-EVENTS) n) (between (pos 0) (pos MOST-HORIZON) h) (record { events = natAbs n; horizon = natAbs h; records = [] })
 
 -- the tests of one record more, each by its answer
-abbrev tests : Bool → Bool → Bool → Bool → Bool → Bool → ℕ
-tests r x y l s u = firstFault (unlessMet r TOO-MANY ∷ five x y l s u ∷ [])
+abbrev tests : Bool → Bool → Bool → Bool → Bool → Bool → Bool → ℕ
+tests r x y l s u w = firstFault (unlessMet r TOO-MANY ∷ six x y l s u w ∷ [])
 
 rule-tests : (r x y s : Bool) (q : M.Plan)
-    → unless r TOO-MANY (unless (x && y) OUT-OF-RANGE (unless s SAME-EVENT (taken q))) ≡ stepOf (tests r x y true s true) q
+    → unless r TOO-MANY (unless (x && y) OUT-OF-RANGE (unless s SAME-EVENT (taken q))) ≡ stepOf (tests r x y true s true true) q
 rule-tests false x y s q = refl
 rule-tests true false y s q = refl
 rule-tests true true false s q = refl
 rule-tests true true true false q = refl
 rule-tests true true true true q = refl
 
--- where a number is no level, the last test does not matter
-wish-tests : (r x l s u v : Bool) (q : M.Plan) → (l ≡ true → u ≡ v)
-    → unless r TOO-MANY (unless (x && l) OUT-OF-RANGE (unless s SAME-EVENT (unless u NOT-PEAKED (taken q)))) ≡ stepOf (tests r x true l s v) q
-wish-tests false x l s u v q e = refl
-wish-tests true false l s u v q e = refl
-wish-tests true true false s u v q e = refl
-wish-tests true true true false u v q e = refl
-wish-tests true true true true u v q e = rw (e refl) (last v)
-  where
-    last : (v : Bool) → unless v NOT-PEAKED (taken q) ≡ stepOf (tests true true true true true v) q
-    last true = refl
-    last false = refl
+-- a wish by its levels as they are read and as they are stored: where a number is no level, the last two tests do not matter
+module _ (read stored : List ℕ) (some : 1 ≤ length read) (q : M.Plan) where
+  abbrev levels-step : Step
+  levels-step = unless (peaked read) NOT-PEAKED (unless (not (allZero read)) NOTHING-ALLOWED (taken q))
+
+  wish-tests : (r x l s : Bool) → (l ≡ true → stored ≡ read)
+      → unless r TOO-MANY (unless (x && l) OUT-OF-RANGE (unless s SAME-EVENT levels-step)) ≡ stepOf (tests r x true l s (peaked stored) (allowsAny stored)) q
+  wish-tests false x l s e = refl
+  wish-tests true false l s e = refl
+  wish-tests true true false s e = refl
+  wish-tests true true true false e = refl
+  wish-tests true true true true e = rw (e refl, allows-wish read some) (last (peaked read) (not (allZero read)))
+    where
+      last : (u w : Bool) → unless u NOT-PEAKED (unless w NOTHING-ALLOWED (taken q)) ≡ stepOf (tests true true true true true u w) q
+      last false w = refl
+      last true false = refl
+      last true true = refl
 
 -- ---- a record, one more of the plan p
 
@@ -100,12 +106,12 @@ module _ (p : M.Plan) (s : SoFar) (k : Counts p (s .events) (s .records) (s .lev
       rw (room-none s h, flat, ← k .events, ← k .records)
       (rule-tests (ltb (length (p .records)) MOST-RECORDS) ranged (leZ (r .lo) (r .hi)) (not (sameEvent (r .a) (r .b))) next)
 
-  pub wish-later : (vs ls : List ℤ)
+  pub wish-later : (vs ls : List ℤ) → 1 ≤ length ls
       → laterLine p (wishLine (item vs 0) (item vs 1) (item vs 2) ls)
       ≡ stepOf (entryFault s (wishSpan vs (length ls)) (map levelOf ls))
       (withRecord p (M.wish (natAbs (item vs 0)) (natAbs (item vs 1)) (item vs 2) (map natAbs ls)))
   unfolding recordFault
-  wish-later vs ls =
+  wish-later vs ls some =
       let a = item vs 0 in
       let b = item vs 1 in
       let lo = item vs 2 in
@@ -113,8 +119,8 @@ module _ (p : M.Plan) (s : SoFar) (k : Counts p (s .events) (s .records) (s .lev
       let room = ltb (length (p .records)) MOST-RECORDS && leb m MOST-LEVELS && leb (levelsTogether (p .records) + m) MOST-LEVELS-TOGETHER in
       let next = withRecord p (M.wish (natAbs a) (natAbs b) lo (map natAbs ls)) in
       rw (length-map ls levelOf, range-last (s .events) a b lo m, order-last lo m, levels-as ls, ← k .events, ← k .records, ← k .levels)
-      (wish-tests room (inRange (p .events) a b lo (lastOf lo ls)) (allLevels ls) (not (sameEvent a b)) (peaked (map natAbs ls)) (peaked (map levelOf ls)) next
-      (λ e. ap peaked (sym (levels-same ls e))))
+      (wish-tests (map natAbs ls) (map levelOf ls) (rw (length-map ls natAbs) some) next
+      room (inRange (p .events) a b lo (lastOf lo ls)) (allLevels ls) (not (sameEvent a b)) (levels-same ls))
 
 -- ---- the form of a line: what its number and the count of its numbers say comes first
 
@@ -131,17 +137,17 @@ module _ (line : ℕ) (formed : Bool) (p : M.Plan) (f : Form) (k : ℕ) (q : M.P
       go false true = n
       go false false = refl
 
-  pub later-step : firstLine f ≡ fault WRONG-FORM → laterLine p f ≡ stepOf k q
+  pub later-step : firstLine f ≡ fault WRONG-FORM → (formed ≡ true → laterLine p f ≡ stepOf k q)
       → lineStep line p (cond formed f wrong) ≡ stepOf (firstFault (unlessMet (not (eqb line 1) && formed) WRONG-FORM ∷ k ∷ [])) q
   unfolding lineStep
-  later-step n e = go (eqb line 1) formed
+  later-step n e = go (eqb line 1) formed refl
     where
-      go : (x y : Bool)
+      go : (x y : Bool) → formed ≡ y
           → cond x (firstLine (cond y f wrong)) (laterLine p (cond y f wrong)) ≡ stepOf (firstFault (unlessMet (not x && y) WRONG-FORM ∷ k ∷ [])) q
-      go true true = n
-      go true false = refl
-      go false true = rw (only k) e
-      go false false = refl
+      go true true r = n
+      go true false r = refl
+      go false true r = rw (only k) (e r)
+      go false false r = refl
 
 -- ---- what the answer says: a fault, or else what the record or the first line is
 

@@ -1,4 +1,4 @@
-// What one line of a text gives: the tests of section 3 in their order, and the record that it adds to the plan.
+// What one line of a text gives: the tests of section 3 and of T-04 in their order, and the record that it adds to the plan.
 ghost use mathlib.Core.Path.{_≡_};
 ghost use mathlib.Core.List.{List};
 ghost use Prim.Native.Nat.{ℕ, _+_, _-_, _≤_, _<_};
@@ -232,7 +232,7 @@ fn take_wish(line: Line, plan: SoFar, levels: &[u8]) -> Effect
     wish_effect(line, plan, levels)
 }
 
-// What a line gives whose numbers are all read, and the levels of a wish stored: the tests of section 3 in their order.
+// What a line gives whose numbers are all read, and the levels of a wish stored: the tests of section 3 and of T-04 in their order.
 pub fn take(line: Line, plan: SoFar, levels: &[u8]) -> Effect
     requires { ⌜ ((vs : List ℤ) × (before : List ℕ) × Whole vs line plan before (now levels)) × Room plan × (MOST-LEVELS-TOGETHER ≤ length (now levels)) ⌝ }
     ensures { λ r. ⌜ Judged line plan (now (levels .entry)) r ⌝ }

@@ -6,7 +6,7 @@ use mathlib.Core.Bool.{Bool, true, false, true≢false}
 use Prim.Native.Nat.{ℕ}
 use lib.Dec.{T}
 use Rattle.meaning.specs.Ladder.{Question, reply, replies, better, Best}
-use Rattle.meaning.proofs.Replies.{Compared, ahead, same, behind, compared, Last, earlier, final, at-last, still, decides}
+use Rattle.meaning.proofs.Replies.{Compared, ahead, same, behind, compared, Last, earlier, final, at-last, still, decides, All, no-better}
 
 module _ {A : Type 0} (S : A → Type 0) (lev : A → List ℕ) where
   -- two best things reply alike
@@ -18,9 +18,10 @@ module _ {A : Type 0} (S : A → Type 0) (lev : A → List ℕ) where
       go (same e) = e
       go (behind h) = absurd (p .unbeaten b (q .member) h)
 
-  -- before any question all are best
-  pub all-best : {a : A} → S a → Best S lev [] a
-  all-best s = record { member = s; unbeaten = λ b t h. h }
+  -- where all say yes to every question all are best
+  pub all-best : {C : Question → Type 0} (qs : List Question) → All C qs → ((q : Question) → C q → (b : A) → S b → reply (lev b) q ≡ true) →
+      {a : A} → S a → Best S lev qs a
+  all-best qs al f {a} s = record { member = s; unbeaten = λ b t h. no-better (λ r. reply (lev b) r) (λ r. reply (lev a) r) qs al (λ q c. f q c a s) h }
 
   -- the best on more questions are among the best on the first of them
   pub shorter : (qs rs : List Question) {a : A} → Best S lev (qs ++ rs) a → Best S lev qs a
@@ -44,11 +45,16 @@ module _ {A : Type 0} (S : A → Type 0) (lev : A → List ℕ) where
       where
         says : Best S lev (qs ++ q ∷ []) a → (b : Bool) → reply (lev a) q ≡ b → reply (lev a) q ≡ true
         says h true e = e
-        says h false e = absurd (h .unbeaten u (pu .member) (decides (λ r. reply (lev u) r) (λ r. reply (lev a) r) qs q (same-replies qs pu (shorter qs (q ∷ []) h)) y e))
+        says h false e =
+            let alike = same-replies qs pu (shorter qs (q ∷ []) h) in
+            absurd (h .unbeaten u (pu .member) (decides (λ r. reply (lev u) r) (λ r. reply (lev a) r) qs q alike y e))
 
     -- where none of the best says yes, they stay the best
     pub kept-no : ((u : A) → Best S lev qs u → reply (lev u) q ≡ false) → (a : A) → Best S lev qs a ↔ Best S lev (qs ++ q ∷ []) a
-    kept-no no′ a = (λ p. record { member = p .member; unbeaten = λ b t h. go p b t (at-last (λ r. reply (lev b) r) (λ r. reply (lev a) r) qs q h) }, shorter qs (q ∷ []))
+    kept-no no′ a = (
+      λ p. record { member = p .member; unbeaten = λ b t h. go p b t (at-last (λ r. reply (lev b) r) (λ r. reply (lev a) r) qs q h) },
+      shorter qs (q ∷ []),
+    )
       where
         go : Best S lev qs a → (b : A) → S b → Last (replies qs (lev b)) (replies qs (lev a)) (reply (lev b) q) (reply (lev a) q) → ⊥
         go p b t (earlier h) = p .unbeaten b t h

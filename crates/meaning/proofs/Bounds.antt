@@ -8,13 +8,17 @@ use native.Mathlib.Nat.{le-of-suc-le-suc, not-suc-le-zero}
 use native.Mathlib.Decide.{ℕ-discrete}
 use native.Mathlib.Omega.{arith}
 use lib.ListN.{length, getD}
-use lib.IntN.{pos}
-use Rattle.ticks.proofs.Ticks.{ticks}
-use Rattle.meaning.specs.Plan as P
-use Rattle.meaning.specs.Plan.{Record, nothing, Plan, recordAt, Times, Within, distance, Timetable}
-use Rattle.meaning.specs.Bounds.{Bound, Holds, upper, lower, horizonUpper, horizonLower, recordBounds, horizonBounds, bounds}
-use Rattle.meaning.specs.Faultless.{WithoutFault}
+use lib.IntN.{ℤ, pos, negℤ, _+ℤ_, _-ℤ_}
+use lib.Signed.{_≤ℤ_}
+use Rattle.ticks.proofs.Ticks.{ticks, sum}
+use Rattle.meaning.specs.Plan.{Record, rule, wish, nothing, Plan, recordAt, start, end, low, high, MOST-END, LEAST-LEVEL}
+use Rattle.meaning.specs.Plan.{Times, Within, Allows, Timetable}
+use Rattle.meaning.specs.Run.{runFirst, runPast}
+use Rattle.meaning.specs.Bounds.{Bound, Holds, shortest, longest, upper, lower, horizonUpper, horizonLower, recordBounds, horizonBounds, bounds}
+use Rattle.meaning.specs.Faultless.{Levelled, GoodRecord, WithoutFault}
 use Rattle.meaning.proofs.Distances.{Horizon}
+use Rattle.meaning.proofs.Runs.{past-most, in-run, level-within, run-is}
+use Rattle.meaning.proofs.Peaks.{level-bounds}
 
 -- ---- which bounds they are
 
@@ -112,6 +116,33 @@ one-code p w = each-bound p (Alone p) (λ k h. (of-upper k h, of-lower k h)) (λ
         (λ j i. (λ q. absurd (omega arith), λ q. absurd (omega arith)))
         (λ f i l. (λ q. absurd (omega arith), λ q. ap horizonLower (omega arith)))
 
+-- ---- the distances of a record without fault are in range, and in order
+
+pub record GoodEnds (r : Record) : Type 0 where
+  pub lowest : negℤ (pos MOST-END) ≤ℤ shortest r
+  pub ordered : shortest r ≤ℤ longest r
+  pub highest : longest r ≤ℤ pos MOST-END
+
+-- so are those of any grade of a wish
+module _ {n a b : ℕ} {lo : ℤ} {ls : List ℕ} (g : GoodRecord n (wish a b lo ls)) (y : ℕ) where
+  pub run-lowest : negℤ (pos MOST-END) ≤ℤ (lo +ℤ pos (runFirst y ls))
+  run-lowest = omega (ticks, g .lowest, sum lo (pos (runFirst y ls)))
+
+  pub run-highest : (lo +ℤ pos (runPast y ls) -ℤ pos 1) ≤ℤ pos MOST-END
+  run-highest = omega (ticks, g .highest, past-most y ls, sum lo (pos (runPast y ls)), sum lo (pos (length ls)))
+
+pub good-ends : {n : ℕ} (r : Record) → GoodRecord n r → GoodEnds r
+good-ends (rule a b lo hi) g = record { lowest = g .lowest; ordered = g .ordered; highest = g .highest }
+good-ends (wish a b lo ls) g =
+    let first = runFirst LEAST-LEVEL ls in
+    let past = runPast LEAST-LEVEL ls in
+    let i = in-run (run-is LEAST-LEVEL (omega arith) ls) (g .levelled .place) (g .levelled .allowed) in
+    record {
+      lowest = run-lowest g LEAST-LEVEL;
+      ordered = omega (ticks, i .0, i .1, sum lo (pos first), sum lo (pos past));
+      highest = run-highest g LEAST-LEVEL;
+    }
+
 -- ---- their events
 
 -- a bound between two different events
@@ -128,26 +159,53 @@ bound-placed p w = each-bound p (Placed (p .events))
 
 -- ---- a timetable holds the bounds
 
--- a record is kept where both its bounds hold
-pub kept-upper : (t : Times) (k : ℕ) (r : Record) → Within (P.low r) (distance t r) (P.high r) → Holds t (upper k r)
+-- t(b) − t(a) lies between the shortest and the longest distance of the record
+abbrev pub Inside : Record → Times → Type 0
+Inside r t = Within (shortest r) (t (end r) -ℤ t (start r)) (longest r)
+
+-- so it does where the record allows the times, and only there if its levels are single-peaked
+pub allowed-inside : (r : Record) (t : Times) → Allows r t → Inside r t
+allowed-inside (rule a b lo hi) t h = h
+allowed-inside (wish a b lo ls) t h = level-within (run-is LEAST-LEVEL (omega arith) ls) (omega arith) (t b -ℤ t a) lo h
+
+pub inside-allowed : (r : Record) (t : Times) → Levelled r → Inside r t → Allows r t
+inside-allowed (rule a b lo hi) t g h = h
+inside-allowed (wish a b lo ls) t g h =
+    level-bounds (run-is LEAST-LEVEL (omega arith) ls) (g .peaked) (omega arith) (omega arith) (t b -ℤ t a) lo .1 h
+
+-- what is allowed lies within the record's span: level 0 takes distances away, and adds none
+pub allowed-spanned : (r : Record) (t : Times) → Allows r t → Within (low r) (t (end r) -ℤ t (start r)) (high r)
+allowed-spanned (rule a b lo hi) t h = h
+allowed-spanned (wish a b lo ls) t h =
+    let first = runFirst LEAST-LEVEL ls in
+    let past = runPast LEAST-LEVEL ls in
+    let i = allowed-inside (wish a b lo ls) t h in
+    record {
+      above = omega (ticks, i .above, sum lo (pos first));
+      below = omega (ticks, i .below, past-most LEAST-LEVEL ls, sum lo (pos past), sum lo (pos (length ls)));
+    }
+
+-- and inside is what its two bounds say
+pub kept-upper : (t : Times) (k : ℕ) (r : Record) → Inside r t → Holds t (upper k r)
 kept-upper t k r w = omega (ticks, w .below)
 
-pub kept-lower : (t : Times) (k : ℕ) (r : Record) → Within (P.low r) (distance t r) (P.high r) → Holds t (lower k r)
+pub kept-lower : (t : Times) (k : ℕ) (r : Record) → Inside r t → Holds t (lower k r)
 kept-lower t k r w = omega (ticks, w .above)
 
-pub held-record : (t : Times) (k : ℕ) (r : Record) → Holds t (upper k r) → Holds t (lower k r) → Within (P.low r) (distance t r) (P.high r)
+pub held-record : (t : Times) (k : ℕ) (r : Record) → Holds t (upper k r) → Holds t (lower k r) → Inside r t
 held-record t k r u l = record { above = omega ticks; below = omega ticks }
 
 pub timetable-holds : {p : Plan} {t : Times} → Timetable p t → (b : Bound) → Given p b → Holds t b
 timetable-holds {p} {t} h = each-bound p (Holds t)
-    (λ k l. (kept-upper t k (recordAt p k) (h .keeps k l), kept-lower t k (recordAt p k) (h .keeps k l)))
+    (λ k l. let r = recordAt p k in let i = allowed-inside r t (h .keeps k l) in (kept-upper t k r i, kept-lower t k r i))
     (λ e l m. (omega (ticks, h .origin, h .within e m .below), omega (ticks, h .origin, h .within e m .above)))
 
-pub holds-timetable : {p : Plan} {t : Times} → t 0 ≡ pos 0 → ((b : Bound) → Given p b → Holds t b) → Timetable p t
-holds-timetable {p} {t} o f = record {
+pub holds-timetable : {p : Plan} → WithoutFault p → {t : Times} → t 0 ≡ pos 0 → ((b : Bound) → Given p b → Holds t b) → Timetable p t
+holds-timetable {p} w {t} o f = record {
   origin = o;
   within = λ e h. inside e h;
-  keeps = λ k h. held-record t k (recordAt p k) (f _ (given-upper p k h)) (f _ (given-lower p k h));
+  keeps = λ k h. let r = recordAt p k in
+      inside-allowed r t (w .each k h .levelled) (held-record t k r (f _ (given-upper p k h)) (f _ (given-lower p k h)));
 }
   where
     inside : (e : ℕ) → e < p .events → Within (pos 0) (t e) (pos (p .horizon))
@@ -162,7 +220,7 @@ holds-timetable {p} {t} o f = record {
 -- keeps the horizon and the first k records
 pub record UpTo (p : Plan) (k : ℕ) (t : Times) : Type 0 where
   pub inside : Horizon (p .events) (p .horizon) t
-  pub keeps : (j : ℕ) → j < k → Within (P.low (recordAt p j)) (distance t (recordAt p j)) (P.high (recordAt p j))
+  pub keeps : (j : ℕ) → j < k → Inside (recordAt p j) t
 
 module _ {p : Plan} {t : Times} where
   pub up-to-none : Horizon (p .events) (p .horizon) t → UpTo p 0 t
@@ -172,7 +230,7 @@ module _ {p : Plan} {t : Times} where
   pub up-to-next : {k : ℕ} → UpTo p k t → Holds t (upper k (recordAt p k)) → Holds t (lower k (recordAt p k)) → UpTo p (suc k) t
   up-to-next {k} h u l = record { inside = h .inside; keeps = λ j m. go j m (ℕ-discrete j k) }
     where
-      go : (j : ℕ) → j < suc k → Dec (j ≡ k) → Within (P.low (recordAt p j)) (distance t (recordAt p j)) (P.high (recordAt p j))
+      go : (j : ℕ) → j < suc k → Dec (j ≡ k) → Inside (recordAt p j) t
       go j m (yes e) = rw e (held-record t k (recordAt p k) u l)
       go j m (no n) = h .keeps j (omega arith)
 
@@ -185,11 +243,15 @@ module _ {p : Plan} {t : Times} where
   pub up-to-lower : {k : ℕ} → UpTo p (suc k) t → Holds t (lower k (recordAt p k))
   up-to-lower {k} h = kept-lower t k (recordAt p k) (h .keeps k (omega arith))
 
-  pub up-to-all : UpTo p (length (p .records)) t → Timetable p t
-  up-to-all h = record { origin = h .inside .origin; within = λ e l. record { above = h .inside .low l; below = h .inside .high l }; keeps = h .keeps }
+  pub up-to-all : WithoutFault p → UpTo p (length (p .records)) t → Timetable p t
+  up-to-all w h = record {
+    origin = h .inside .origin;
+    within = λ e l. record { above = h .inside .low l; below = h .inside .high l };
+    keeps = λ k l. inside-allowed (recordAt p k) t (w .each k l .levelled) (h .keeps k l);
+  }
 
   pub timetable-up-to : Timetable p t → (k : ℕ) → k ≤ length (p .records) → UpTo p k t
   timetable-up-to h k l = record {
     inside = record { origin = h .origin; low = λ {e} m. h .within e m .above; high = λ {e} m. h .within e m .below };
-    keeps = λ j m. h .keeps j (omega arith);
+    keeps = λ j m. allowed-inside (recordAt p j) t (h .keeps j (omega arith));
   }

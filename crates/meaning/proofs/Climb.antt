@@ -12,25 +12,28 @@ use lib.ListN.{length, set, replicate, length-set, length-replicate, getD-replic
 use lib.Seq.{getD-set-same, getD-set-other, ext-getD}
 use borrow.Author.Tests.{leb-true, le-leb, lt-leb}
 use Rattle.meaning.specs.Plan.{TOP-LEVEL}
-use Rattle.meaning.specs.Ladder.{questions, lv, reply, Best}
+use Rattle.meaning.specs.Ladder.{Question, questions, lv, reply, Best}
 use Rattle.meaning.specs.Climb.{asked, Above, Reached}
-use Rattle.meaning.proofs.Questions.{ask, asked-more, asked-next, asked-all}
+use Rattle.meaning.proofs.Questions.{ask, Low, asked-more, asked-next, asked-all, asked-low}
 use Rattle.meaning.proofs.Best.{all-best, shorter, kept-yes, kept-no}
 
 module _ {A : Type 0} {S : A → Type 0} {lev : A → List ℕ} {w : ℕ} where
-  -- no question yet: all are left
-  pub reached-start : (a : A) → S a → Reached S lev w 0 0 (replicate w 0)
-  reached-start a s = record {
-    count = length-replicate w 0;
-    best = λ b. (λ h. all-best S lev (h .member), λ h. record { member = h .member; atLeast = none b });
+  -- all things have y grades, so after y grades all are left
+  pub reached-start : (y : ℕ) → ((a : A) → S a → (j : ℕ) → j < w → y ≤ lv (lev a) j) → (a : A) → S a → Reached S lev w y 0 (replicate w y)
+  reached-start y all a s = record {
+    count = length-replicate w y;
+    best = λ b. (λ h. all-best S lev (asked w y 0) (asked-low w y) says-yes (h .member), λ h. every b (h .member));
     some = a;
-    left = record { member = s; atLeast = none a };
+    left = every a s;
     done = λ b h j l. absurd (not-suc-le-zero l);
-    waiting = λ b h j l m. omega (arith, getD-replicate {A = ℕ} w j 0 0 m);
+    waiting = λ b h j l m. omega (arith, getD-replicate {A = ℕ} w j y 0 m, all b (h .member) j m);
   }
     where
-      none : (a : A) (j : ℕ) → j < w → lv (replicate w 0) j ≤ lv (lev a) j
-      none a j l = omega (arith, getD-replicate {A = ℕ} w j 0 0 l)
+      every : (a : A) → S a → Above S lev w (replicate w y) a
+      every a s = record { member = s; atLeast = λ j l. omega (arith, getD-replicate {A = ℕ} w j y 0 l, all a s j l) }
+
+      says-yes : (q : Question) → Low w y q → (b : A) → S b → reply (lev b) q ≡ true
+      says-yes q l b m = le-leb (q .grade) (lv (lev b) (q .wish)) (omega (arith, l .grade, all b m (q .wish) (l .wish)))
 
   module _ {y k : ℕ} {g : List ℕ} (r : Reached S lev w y k g) (h : k < w) where
     -- a wish that failed at an earlier grade fails again
@@ -52,7 +55,8 @@ module _ {A : Type 0} {S : A → Type 0} {lev : A → List ℕ} {w : ℕ} where
         up p j l (no n) = omega (arith, getD-set-other g k j (suc y) 0 n, p .0 .atLeast j l)
 
         down : Above S lev w (set g k (suc y)) a → (j : ℕ) → j < w → Dec (j ≡ k) → lv g j ≤ lv (lev a) j
-        down p j l (yes e) = subst⁻¹ (λ (i : ℕ). lv g i ≤ lv (lev a) i) e (omega (arith, here, p .atLeast k h, r .waiting (r .some) (r .left) k (omega arith) h))
+        down p j l (yes e) =
+            subst⁻¹ (λ (i : ℕ). lv g i ≤ lv (lev a) i) e (omega (arith, here, p .atLeast k h, r .waiting (r .some) (r .left) k (omega arith) h))
         down p j l (no n) = omega (arith, getD-set-other g k j (suc y) 0 n, p .atLeast j l)
 
     -- yes: one of those left has the next grade, and all that have it are left
@@ -116,7 +120,8 @@ module _ {A : Type 0} {S : A → Type 0} {lev : A → List ℕ} {w : ℕ} where
   reached-best {g} r a = subst (λ qs. Above S lev w g a ↔ Best S lev qs a) (asked-all w) (r .best a)
 
   -- and the grades reached are their levels
-  pub reached-levels : {g : List ℕ} → Reached S lev w TOP-LEVEL 0 g → {a : A} → length (lev a) ≡ w → ((j : ℕ) → lv (lev a) j ≤ TOP-LEVEL) → Above S lev w g a → lev a ≡ g
+  pub reached-levels : {g : List ℕ} → Reached S lev w TOP-LEVEL 0 g → {a : A} → length (lev a) ≡ w → ((j : ℕ) → lv (lev a) j ≤ TOP-LEVEL) →
+      Above S lev w g a → lev a ≡ g
   reached-levels {g} r {a} n mild p = ext-getD 0 (lev a) g (n ∙ sym (r .count)) (λ j h. omega (arith, r .waiting a p j (omega arith) (omega arith), mild j))
 
 -- ---- a question answered no is answered no at every higher grade
@@ -140,5 +145,6 @@ module _ {A : Type 0} (S : A → Type 0) (lev : A → List ℕ) (w : ℕ) where
         go (no n) f = f (omega arith) (fewer-wishes z k w l (subst (λ qs. Best S lev qs a) (asked-next w z) (fewer-wishes (suc z) 0 k zero-le p)))
 
   -- where none of those left has level y + 1 or more at wish k when that is asked, none of those left at a later grade has
-  pub no-stays-no : {k y z : ℕ} → k < w → y ≤ z → ((u : A) → Best S lev (asked w y k) u → lv (lev u) k ≤ y) → (u : A) → Best S lev (asked w z k) u → lv (lev u) k ≤ y
+  pub no-stays-no : {k y z : ℕ} → k < w → y ≤ z → ((u : A) → Best S lev (asked w y k) u → lv (lev u) k ≤ y) →
+      (u : A) → Best S lev (asked w z k) u → lv (lev u) k ≤ y
   no-stays-no {k} {y} {z} l h none u p = none u (fewer-grades k (omega arith) y z h p)

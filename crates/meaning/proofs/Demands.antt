@@ -24,7 +24,7 @@ use Rattle.meaning.proofs.Refusals.{refused-number}
 use Rattle.meaning.proofs.Fair.{best-fair, best-pareto, best-highest}
 use Rattle.meaning.proofs.Chains.{chain-excludes}
 use Rattle.meaning.proofs.Promises.{some-outcome, one-promise}
-use Rattle.meaning.specs.Numbers.{AREA-TOO-SHORT}
+use Rattle.meaning.specs.Numbers.{AREA-TOO-SHORT, NOTHING-ALLOWED}
 
 -- ---- written over the front of an area
 
@@ -56,7 +56,7 @@ long-areas a e =
 
 data Came (c : Call) : Type 0 where
   on-plan : (p : Plan) → OnPlan c p → Came c
-  turned-down : 2 ≤ c .number → c .number ≤ 7 → heard (c .before) (c .text) ≡ refused (c .number) (c .place) → c .after ≡ c .before → Came c
+  turned-down : 2 ≤ c .number → c .number ≤ NOTHING-ALLOWED → heard (c .before) (c .text) ≡ refused (c .number) (c .place) → c .after ≡ c .before → Came c
 
 came : (c : Call) → Kept c → Came c
 came c k = go (longEnough (c .before)) refl (read (c .text)) refl (k .outcome) (k .right) (k .numbered) (k .placed) (k .writes)

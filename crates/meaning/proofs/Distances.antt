@@ -47,7 +47,8 @@ module _ {n a b : ℕ} {w : ℤ} {D D′ : Distances} (c : Closed n D) (la : a <
   adds-below {H} r = record { hi = λ {i} {j} p q. omega (ticks, e .at p q, r .hi p q) }
 
 -- a row that the program passes over is as `Adds` asks
-pub skipped : {n b i j : ℕ} {D : Distances} (a : ℕ) (w : ℤ) → Closed n D → b < n → i < n → j < n → D i b ≤ℤ (D i a +ℤ w) → D i j ≡ minZ (D i j) ((D i a +ℤ w) +ℤ D b j)
+pub skipped : {n b i j : ℕ} {D : Distances} (a : ℕ) (w : ℤ) → Closed n D → b < n → i < n → j < n → D i b ≤ℤ (D i a +ℤ w) →
+    D i j ≡ minZ (D i j) ((D i a +ℤ w) +ℤ D b j)
 skipped a w c lb p q m = omega (ticks, c .tri p lb q)
 
 -- ---- timetables of a closed matrix

@@ -42,7 +42,8 @@ distinct-join (x ∷ xs) ys p q d =
 
 pub distinct-left : (xs ys : List ℕ) → T (distinct (xs ++ ys)) → T (distinct xs)
 distinct-left [] ys p = tt
-distinct-left (x ∷ xs) ys p = distinct-cons x xs (λ m. distinct-head x (xs ++ ys) p (Memᴰ·append-left ys m)) (distinct-left xs ys (distinct-tail x (xs ++ ys) p))
+distinct-left (x ∷ xs) ys p =
+    distinct-cons x xs (λ m. distinct-head x (xs ++ ys) p (Memᴰ·append-left ys m)) (distinct-left xs ys (distinct-tail x (xs ++ ys) p))
 
 pub distinct-right : (xs ys : List ℕ) → T (distinct (xs ++ ys)) → T (distinct ys)
 distinct-right [] ys p = p

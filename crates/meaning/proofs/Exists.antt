@@ -44,7 +44,7 @@ module _ {p : Plan} (w : WithoutFault p) where
   held-next h = record { stands = stands-next p (h .stands); walks = h .walks }
 
   pub held-all : {D : Distances} → Held p D (UpTo p (length (p .records))) → Held p D (Timetable p)
-  held-all h = record { stands = stands-all p (h .stands); walks = h .walks }
+  held-all h = record { stands = stands-all p w (h .stands); walks = h .walks }
 
   -- ---- all of them
 
@@ -61,7 +61,9 @@ module _ {p : Plan} (w : WithoutFault p) where
 
   records-held : (k : ℕ) → k ≤ length (p .records) → Or (UpTo p k)
   records-held zero l = inl (horizonOnly (p .horizon), held-horizon)
-  records-held (suc k) l = ⊎-map (λ x. (x .0, held-next (x .1))) (λ c. c) (one-bound (given-lower p k l) (one-bound (given-upper p k l) (records-held k (omega arith))))
+  records-held (suc k) l =
+      ⊎-map (λ x. (x .0, held-next (x .1))) (λ c. c)
+      (one-bound (given-lower p k l) (one-bound (given-upper p k l) (records-held k (omega arith))))
 
   -- a matrix for the timetables, or a chain
   pub plan-held : ((D : Distances) × Held p D (Timetable p)) ⊎ SomeChain p

@@ -33,7 +33,8 @@ same-level a b p q f = go (decLt a b) (decLt b a)
     go (no n) (yes h) = omega (arith, down h)
     go (no n) (no m) = omega arith
 
-module _ {A : Type 0} {S : A → Type 0} {lev : A → List ℕ} (w : ℕ) (count : (a : A) → length (lev a) ≡ w) (mild : (a : A) → S a → (j : ℕ) → j < w → lv (lev a) j ≤ TOP-LEVEL) where
+module _ {A : Type 0} {S : A → Type 0} {lev : A → List ℕ} (w : ℕ) (count : (a : A) → length (lev a) ≡ w)
+    (mild : (a : A) → S a → (j : ℕ) → j < w → lv (lev a) j ≤ TOP-LEVEL) where
   -- all best ones have the same levels
   pub same-levels : {a b : A} → Best S lev (questions w) a → Best S lev (questions w) b → lev a ≡ lev b
   same-levels {a} {b} p q = ext-getD 0 (lev a) (lev b) (count a ∙ sym (count b)) (λ j h. one j (omega (arith, count a)))
@@ -51,7 +52,8 @@ module _ {A : Type 0} {S : A → Type 0} {lev : A → List ℕ} (w : ℕ) (count
   pub always-fair : {a : A} → Best S lev (questions w) a → Fair S lev w a
   always-fair {a} p = record { fair = loss }
     where
-      found : (b : A) (k : ℕ) → lv (lev a) k < lv (lev b) k → Against (λ r. reply (lev b) r) (λ r. reply (lev a) r) (Low w (suc (lv (lev a) k))) → Loss w k (lev a) (lev b)
+      found : (b : A) (k : ℕ) → lv (lev a) k < lv (lev b) k →
+          Against (λ r. reply (lev b) r) (λ r. reply (lev a) r) (Low w (suc (lv (lev a) k))) → Loss w k (lev a) (lev b)
       found b k l f =
           let r : Question = f .0 in
           let u : lv (lev b) (r .wish) < r .grade = leb-false (r .grade) (lv (lev b) (r .wish)) (f .2) in

@@ -1,15 +1,15 @@
 -- What a caller may count on for the known plans, and that the idle versions of document 01, section 9, and the errors of section 8 are excluded.
 use mathlib.Core.Path.{_≡_, refl, sym, ap, _∙_}
 use mathlib.Core.Bool.{true}
-use mathlib.Core.List.{List, [], _∷_, List·Memᴰ, List·Memᴰ·head, List·Memᴰ·tail}
-use Prim.Native.Nat.{ℕ, _≤_, _<_}
+use mathlib.Core.List.{List, [], _∷_, List·Memᴰ, List·Memᴰ·head, List·Memᴰ·tail, List·Memᴰ·not-nil}
+use Prim.Native.Nat.{ℕ, zero, suc, _≤_, _<_}
 use Prim.Native.String.{String}
 use native.Mathlib.Omega.{arith}
-use lib.ListN.{length, length-map}
+use lib.ListN.{length, drop, length-map}
 use lib.IntN.{ℤ, pos}
 use Rattle.meaning.specs.Plan.{Times, Timetable}
 use Rattle.meaning.specs.Outcome.{solved, number, place, longEnough, over, written}
-use Rattle.meaning.specs.Known.{Known, bytes, CASE-5, CASE-6, table}
+use Rattle.meaning.specs.Known.{Known, bytes, CASE-5, CASE-5-RAISED, CASE-6, table}
 use Rattle.meaning.specs.Demands.{Call, Kept, grades, codes, KnownPlans}
 use Rattle.meaning.specs.Demands.{RefusesNoPlan, NoFixedReply, WritesSomething, ClimbsOn, ClimbsTogether, CountsSteps}
 use Rattle.meaning.specs.Bounds.{Chain}
@@ -43,12 +43,21 @@ refuses-no-plan c p h k = go (result c p h k)
     go (with-times ts ls x n l w) = (omega arith, λ t m. n)
     go (with-chain cs x n l w) = (omega arith, λ t m. absurd (chain-excludes x m))
 
+-- what stands past n rows stands in the table
+past : (n : ℕ) (ks : List Known) {k : Known} → List·Memᴰ k (drop n ks) → List·Memᴰ k ks
+past zero ks m = m
+past (suc n) [] m = absurd (List·Memᴰ·not-nil m)
+past (suc n) (j ∷ ks) m = List·Memᴰ·tail (past n ks m)
+
 -- cases 5 and 6 have other times
 pub case-5 : List·Memᴰ (row CASE-5 (pos 0 ∷ pos 1 ∷ []) (1 ∷ 1 ∷ [])) table
-case-5 = List·Memᴰ·tail (List·Memᴰ·tail (List·Memᴰ·tail (List·Memᴰ·tail (List·Memᴰ·head refl))))
+case-5 = past 6 table (List·Memᴰ·head refl)
+
+pub case-5-raised : List·Memᴰ (row CASE-5-RAISED (pos 0 ∷ pos 1 ∷ []) (2 ∷ 2 ∷ [])) table
+case-5-raised = past 7 table (List·Memᴰ·head refl)
 
 pub case-6 : List·Memᴰ (row CASE-6 (pos 0 ∷ pos 0 ∷ pos 3 ∷ []) (1 ∷ 3 ∷ [])) table
-case-6 = List·Memᴰ·tail (List·Memᴰ·tail (List·Memᴰ·tail (List·Memᴰ·tail (List·Memᴰ·tail (List·Memᴰ·head refl)))))
+case-6 = past 8 table (List·Memᴰ·head refl)
 
 pub no-fixed-reply : NoFixedReply
 no-fixed-reply before after l f = second-time (before .times) (after .times) (written-times CASE-5 _ _ case-5) (written-times CASE-6 _ _ case-6)
@@ -69,7 +78,10 @@ pub climbs-on : ClimbsOn
 climbs-on c t l k e = let d = known-grades CASE-6 _ _ case-6 c t l k in let z : _≡_ {A = ℕ} 1 3 = cc in omega arith
 
 pub climbs-together : ClimbsTogether
-climbs-together c t l k e = let d = known-grades CASE-5 _ _ case-5 c t l k in let z : _≡_ {A = ℕ} 0 1 = cc in omega arith
+climbs-together = (
+  λ c t l k e. let d = known-grades CASE-5 _ _ case-5 c t l k in let z : _≡_ {A = ℕ} 0 1 = cc in omega arith,
+  λ c t l k e. let d = known-grades CASE-5-RAISED _ _ case-5-raised c t l k in let z : _≡_ {A = ℕ} 1 2 = cc in omega arith,
+)
 
 pub counts-steps : CountsSteps
 counts-steps c p h k o = go (result c p h k)

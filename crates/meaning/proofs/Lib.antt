@@ -2,6 +2,7 @@
 -- closed distances
 pub mod Distances
 -- levels and the ladder
+pub mod Runs
 pub mod Peaks
 pub mod Replies
 pub mod Questions
@@ -14,8 +15,10 @@ pub mod Wishes
 pub mod Slices
 pub mod Over
 pub mod Times
+pub mod Agree
 -- a text's reading
 pub mod Tests
+pub mod Zeros
 pub mod ReadGood
 pub mod Refusals
 -- the known plans
@@ -29,6 +32,7 @@ pub mod Distinct
 pub mod Pigeons
 pub mod Bounds
 pub mod Stands
+pub mod Spans
 pub mod Walks
 pub mod Chains
 pub mod Exists

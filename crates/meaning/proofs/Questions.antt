@@ -15,7 +15,8 @@ ask y k = record { grade = y; wish = k }
 
 row-snoc′ : (y k m : ℕ) → row y k (suc m) ≡ row y k m ++ ask y (k + m) ∷ []
 row-snoc′ y k zero = rw add-zero
-row-snoc′ y k (suc m) = ap {B = List Question} (λ l. ask y k ∷ l) (row-snoc′ y (suc k) m ∙ ap (λ n. row y (suc k) m ++ ask y n ∷ []) (suc-add k m ∙ sym (add-suc k m)))
+row-snoc′ y k (suc m) =
+    ap {B = List Question} (λ l. ask y k ∷ l) (row-snoc′ y (suc k) m ∙ ap (λ n. row y (suc k) m ++ ask y n ∷ []) (suc-add k m ∙ sym (add-suc k m)))
 
 -- one more wish
 pub row-snoc : (y m : ℕ) → row y 0 (suc m) ≡ row y 0 m ++ ask y m ∷ []
@@ -60,12 +61,26 @@ row-low : (w y z k m : ℕ) → z ≤ y → k + m ≤ w → All (Low w y) (row z
 row-low w y z k zero h g = tt
 row-low w y z k (suc m) h g = (record { grade = h; wish = omega arith }, row-low w y z (suc k) m h (omega arith))
 
+rows-low : (w y s m : ℕ) → s + m ≤ suc y → All (Low w y) (rows w s m)
+rows-low w y s zero h = tt
+rows-low w y s (suc m) h =
+    all-append (Low w y) (row s 0 w) (rows w (suc s) m) (row-low w y s 0 w (omega arith) (omega arith)) (rows-low w y (suc s) m (omega arith))
+
+-- when y grades are done, grades up to y have been asked
+pub asked-low : (w y : ℕ) → All (Low w y) (asked w y 0)
+asked-low w y = all-append (Low w y) (rows w 1 y) [] (rows-low w y 1 y (omega arith)) tt
+
 row-place : (w y k m j : ℕ) → k ≤ j → j < k + m → k + m ≤ w → Place w y (ask y j) (row y k m)
 row-place w y k zero j a b c = let z : ⊥ = omega arith in absurd z
 row-place w y k (suc m) j a b c = go (λ x z. row-place w y (suc k) m j x z (omega arith)) (ℕ-discrete k j)
   where
     later : Place w y (ask y j) (row y (suc k) m) → Place w y (ask y j) (row y k (suc m))
-    later p = record { front = ask y k ∷ p .front; back = p .back; whole = ap {B = List Question} (λ l. ask y k ∷ l) (p .whole); low = (record { grade = omega arith; wish = omega arith }, p .low) }
+    later p = record {
+      front = ask y k ∷ p .front;
+      back = p .back;
+      whole = ap {B = List Question} (λ l. ask y k ∷ l) (p .whole);
+      low = (record { grade = omega arith; wish = omega arith }, p .low);
+    }
 
     go : (k < j → j < suc k + m → Place w y (ask y j) (row y (suc k) m)) → Dec (k ≡ j) → Place w y (ask y j) (row y k (suc m))
     go f (yes e) = record { front = []; back = row y (suc k) m; whole = ap (λ n. ask y n ∷ row y (suc k) m) e; low = tt }
@@ -92,7 +107,9 @@ rows-place w s (suc m) y j a b c = go (λ x z. rows-place w (suc s) m y j x z c)
     }
 
     go : (s < y → y < suc s + m → Place w y (ask y j) (rows w (suc s) m)) → Dec (s ≡ y) → Place w y (ask y j) (row s 0 w ++ rows w (suc s) m)
-    go f (yes e) = subst (λ (z : ℕ). Place w y (ask y j) (row z 0 w ++ rows w (suc s) m)) (sym e) (inside (row-place w y 0 w j (omega arith) (omega arith) (omega arith)))
+    go f (yes e) =
+        subst (λ (z : ℕ). Place w y (ask y j) (row z 0 w ++ rows w (suc s) m)) (sym e)
+        (inside (row-place w y 0 w j (omega arith) (omega arith) (omega arith)))
     go f (no n) = later (f (omega arith) (omega arith))
 
 -- each question has its place on the ladder

@@ -17,12 +17,12 @@ use Rattle.meaning.specs.Plan.{MOST-RECORDS, MOST-LEVELS, MOST-LEVELS-TO
 use Rattle.meaning.specs.Peak.{peaked}
 use Rattle.meaning.specs.Reading.{EVENTS, RULE, WISH, TAB, LINE-FEED, same, split, numbers, item}
 use Rattle.meaning.specs.Reading.{Form, eventsLine, ruleLine, wishLine, wrong, eventsForm, ruleForm, wishForm, formOf, lineForm}
-use Rattle.meaning.specs.Reading.{between, allLevels, inRange, sameEvent, lastOf, levelsTogether, withRecord}
+use Rattle.meaning.specs.Reading.{between, allLevels, inRange, sameEvent, allZero, lastOf, levelsTogether, withRecord}
 use Rattle.meaning.specs.Reading.{Step, taken, fault, unless, firstLine, laterLine, lineStep, plan, refused, empty, afterStep, readPieces, read}
 use Rattle.meaning.specs.Faultless.{GoodRecord, WithoutFault}
 use Rattle.meaning.proofs.Peaks.{peaked-sound}
-use Rattle.meaning.proofs.Tests.{both, event-below, count-from, count-to, levels-mild, apart, in-range}
-use Rattle.meaning.specs.Numbers.{WRONG-FORM, TOO-MANY, OUT-OF-RANGE, SAME-EVENT, NOT-PEAKED}
+use Rattle.meaning.proofs.Tests.{both, event-below, count-from, count-to, levels-mild, some-allowed, apart, in-range}
+use Rattle.meaning.specs.Numbers.{WRONG-FORM, TOO-MANY, OUT-OF-RANGE, SAME-EVENT, NOT-PEAKED, NOTHING-ALLOWED}
 
 -- ---- a form that a line has: a wish has a level
 
@@ -152,13 +152,15 @@ wish-without p a b lo ls h w e =
     let e4 = passed (inRange n a b lo (lastOf lo ls) && allLevels ls) OUT-OF-RANGE _ (e3 .1) in
     let e5 = passed (not (sameEvent a b)) SAME-EVENT _ (e4 .1) in
     let e6 = passed (peaked (map natAbs ls)) NOT-PEAKED _ (e5 .1) in
+    let e8 = passed (not (allZero (map natAbs ls))) NOTHING-ALLOWED _ (e6 .1) in
+    let rest = some-allowed (map natAbs ls) (e8 .0) in
     let counts = both (many && leb (length ls) MOST-LEVELS) (leb (levelsTogether (p .records) + length ls) MOST-LEVELS-TOGETHER) (e3 .0) in
     let count = both many (leb (length ls) MOST-LEVELS) (counts .0) in
     let t = both (inRange n a b lo (lastOf lo ls)) (allLevels ls) (e4 .0) in
     let r = in-range n a b lo (lastOf lo ls) (t .0) in
     let long = length-map ls natAbs in
     let last = last-high lo ls h in
-    is-without (e6 .1) (record-more p (wish (natAbs a) (natAbs b) lo (map natAbs ls)) w (ltb-true (length (p .records)) MOST-RECORDS (count .0))
+    is-without (e8 .1) (record-more p (wish (natAbs a) (natAbs b) lo (map natAbs ls)) w (ltb-true (length (p .records)) MOST-RECORDS (count .0))
     (omega (arith, long, leb-true (levelsTogether (p .records) + length ls) MOST-LEVELS-TOGETHER (counts .1))) (record {
       starts = event-below n a (r .first);
       ends = event-below n b (r .second);
@@ -171,6 +173,8 @@ wish-without p a b lo ls h w e =
         few = omega (arith, long, leb-true (length ls) MOST-LEVELS (count .1));
         mild = levels-mild ls (t .1);
         peaked = peaked-sound (map natAbs ls) (e6 .0);
+        place = rest .0;
+        allowed = rest .1;
       };
     }))
 

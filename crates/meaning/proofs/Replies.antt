@@ -32,7 +32,8 @@ behind-same true (final e p q) = final (ap {B = List Bool} (λ z. true ∷ z) e)
 behind-same false (earlier k) = earlier k
 behind-same false (final e p q) = final (ap {B = List Bool} (λ z. false ∷ z) e) p q
 
-cons-last : (c d : Bool) {x y : List Bool} (X Y : List Bool) {a b : Bool} → (T (better X Y) → Last x y a b) → T (better (c ∷ X) (d ∷ Y)) → Last (c ∷ x) (d ∷ y) a b
+cons-last : (c d : Bool) {x y : List Bool} (X Y : List Bool) {a b : Bool} → (T (better X Y) → Last x y a b) →
+    T (better (c ∷ X) (d ∷ Y)) → Last (c ∷ x) (d ∷ y) a b
 cons-last true true X Y f h = behind-same true (f h)
 cons-last true false X Y f h = earlier tt
 cons-last false true X Y f h = absurd h
@@ -84,12 +85,23 @@ module _ {Q : Type 0} (f g : Q → Bool) where
       go false true x y k h = absurd (true≢false (sym h))
       go false false x y k h = k
 
+  -- nothing is better than yes throughout
+  pub no-better : {C : Q → Type 0} (qs : List Q) → All C qs → ((q : Q) → C q → g q ≡ true) → ¬ T (better (map f qs) (map g qs))
+  no-better [] al y h = h
+  no-better (q ∷ qs) al y h = go (f q) (g q) (y q (al .0)) (map f qs) (map g qs) (no-better qs (al .1) y) h
+    where
+      go : (a b : Bool) → b ≡ true → (x z : List Bool) → ¬ T (better x z) → T (better (a ∷ x) (b ∷ z)) → ⊥
+      go true true e x z n h = n h
+      go false true e x z n h = h
+      go a false e x z n h = true≢false (sym e)
+
   -- f says no and g yes, to one with C
   abbrev pub Against : (Q → Type 0) → Type 0
   Against C = (r : Q) × C r × (f r ≡ false) × (g r ≡ true)
 
   -- where f does not win, and f says yes and g no at q, f says no and g yes at one before
-  pub before : {C : Q → Type 0} (P : List Q) (q : Q) (R : List Q) → All C P → ¬ T (better (map f (P ++ q ∷ R)) (map g (P ++ q ∷ R))) → f q ≡ true → g q ≡ false → Against C
+  pub before : {C : Q → Type 0} (P : List Q) (q : Q) (R : List Q) → All C P → ¬ T (better (map f (P ++ q ∷ R)) (map g (P ++ q ∷ R))) →
+      f q ≡ true → g q ≡ false → Against C
   before [] q R al n p m = absurd (n (rw (p, m) tt))
   before {C} (r ∷ P) q R al n p m = go (f r) (g r) refl refl (map f (P ++ q ∷ R)) (map g (P ++ q ∷ R)) n (λ n′. before P q R (al .1) n′ p m)
     where

@@ -1,25 +1,26 @@
 -- Every plan without fault that has a timetable has its best ones, and one of them has the least time of every event: the climb of the
 -- ladder with a matrix for the timetables left. Each question is two bounds; they can be added (yes) or leave nothing (no).
-use mathlib.Core.Path.{_≡_, refl, ap, sym, subst⁻¹, _∙_}
+use mathlib.Core.Path.{_≡_, refl, ap, sym, subst, subst⁻¹, _∙_}
 use mathlib.Core.Logic.{_↔_, _⊎_, inl, inr, ⊎-elim, ⊎-map}
 use mathlib.Core.List.{List}
-use Prim.Native.Nat.{ℕ, zero, suc, _≤_, _<_}
+use Prim.Native.Nat.{ℕ, zero, suc, _+_, _-_, _≤_, _<_}
 use native.Mathlib.Omega.{arith}
 use lib.ListN.{length, set, replicate, getD-replicate}
 use lib.IntN.{ℤ, pos, _+ℤ_, _-ℤ_}
 use lib.Signed.{_≤ℤ_}
 use Rattle.ticks.proofs.Ticks as K
 use Rattle.ticks.proofs.Ticks.{ticks}
-use Rattle.meaning.specs.Plan.{Record, rule, wish, Plan, recordAt, Times, Timetable, Within, levels, wishes, TOP-LEVEL}
+use Rattle.meaning.specs.Plan.{Record, rule, wish, Plan, recordAt, Times, Timetable, Within, levels, wishes, TOP-LEVEL, LEAST-LEVEL}
 use Rattle.meaning.specs.Bounds.{Bound, upper, lower}
 use Rattle.meaning.specs.Distances.{Keeps, earliest, Distances, Stands, addedBound}
 use Rattle.meaning.specs.Outcome.{BestTimes, at, Solved}
-use Rattle.meaning.specs.Run.{Run}
+use Rattle.meaning.specs.Run.{runFirst, runPast}
 use Rattle.meaning.proofs.Times.{timesFrom, times-count, times-at}
 use Rattle.meaning.specs.Faultless.{WithoutFault, GoodRecord}
 use Rattle.meaning.specs.Climb.{Left, number, ClimbedTo}
 use Rattle.meaning.proofs.Distances.{earliest-holds, earliest-least}
-use Rattle.meaning.proofs.Peaks.{InRun, runFirst, runPast, run-is}
+use Rattle.meaning.proofs.Runs.{Run, InRun, run-is}
+use Rattle.meaning.proofs.Levels.{levels-allowed}
 use Rattle.meaning.proofs.Wishes.{climb-start, climb-rule, climb-yes, climb-within, climb-no, climb-next, climb-best, climb-levels}
 use Rattle.meaning.proofs.Bounds.{Placed, kept-upper, kept-lower, held-record}
 use Rattle.meaning.proofs.Stands.{stands-same, With, added-adds, stands-adds, stands-none, stands-earliest}
@@ -46,18 +47,24 @@ Found n X = ((D : Distances) × Stands n D X) ⊎ ((t : Times) → X t → ⊥)
 
 one-bound : {n : ℕ} {X : Times → Type 0} {β : Bound} → Placed n β → Found n X → Found n (With β X)
 one-bound l (inr f) = inr (λ t y. f t (y .0))
-one-bound {n} {X} {β} l (inl (D, s)) = ⊎-map (λ m. (addedBound β D, stands-adds s l (added-adds n β D) m)) (λ m. stands-none s l m) (K.total (pos 0) (D (β .end) (β .start) +ℤ β .weight))
+one-bound {n} {X} {β} l (inl (D, s)) =
+    ⊎-map (λ m. (addedBound β D, stands-adds s l (added-adds n β D) m)) (λ m. stands-none s l m)
+    (K.total (pos 0) (D (β .end) (β .start) +ℤ β .weight))
 
 two-bounds : {n a b : ℕ} → a < n → b < n → (a ≡ b → ⊥) → (lo hi : ℤ) (X : Times → Type 0) → Found n X → Found n (Between a b lo hi X)
 two-bounds {n} {a} {b} ha hb f lo hi X x = ⊎-map
     (λ y. (y .0, stands-same (y .1) (between-bounds a b lo hi X)))
     (λ q t y. q t (between-bounds a b lo hi X t .1 y))
-    (one-bound {β = lower 0 (rule a b lo hi)} (record { starts = hb; ends = ha; apart = λ e. f (sym e) }) (one-bound {β = upper 0 (rule a b lo hi)} (record { starts = ha; ends = hb; apart = f }) x))
+    (one-bound {β = lower 0 (rule a b lo hi)} (record { starts = hb; ends = ha; apart = λ e. f (sym e) })
+    (one-bound {β = upper 0 (rule a b lo hi)} (record { starts = ha; ends = hb; apart = f }) x))
 
--- ---- no question yet: all timetables are left
+-- ---- the first grade is part of the plan: all timetables are left
 
-pub all-left : (p : Plan) (t : Times) → Timetable p t ↔ Left p (replicate (wishes p) 0) t
-all-left p t = (λ h. record { member = h; atLeast = λ j l. omega (arith, getD-replicate {A = ℕ} (wishes p) j 0 0 l) }, λ h. h .member)
+pub all-left : (p : Plan) (t : Times) → Timetable p t ↔ Left p (replicate (wishes p) LEAST-LEVEL) t
+all-left p t = (
+  λ h. record { member = h; atLeast = λ j l. omega (arith, getD-replicate {A = ℕ} (wishes p) j LEAST-LEVEL 0 l, levels-allowed h j l) },
+  λ h. h .member,
+)
 
 -- ---- the end: the least times
 
@@ -92,7 +99,8 @@ module _ {p : Plan} (w : WithoutFault p) where
     where
       go : (x : Record) → recordAt p r ≡ x → GoodRecord (p .events) x → Stage y (suc r)
       go (rule a b lo hi) e q = record { grades = s .grades; climbed = climb-rule p (s .climbed) h e; matrix = s .matrix; stands = s .stands }
-      go (wish a b lo ls) e q = answered (two-bounds (q .starts) (q .ends) (q .apart) (lo +ℤ pos first) (lo +ℤ pos past -ℤ pos 1) (Left p (s .grades)) (inl (s .matrix, s .stands)))
+      go (wish a b lo ls) e q =
+          answered (two-bounds (q .starts) (q .ends) (q .apart) (lo +ℤ pos first) (lo +ℤ pos past -ℤ pos 1) (Left p (s .grades)) (inl (s .matrix, s .stands)))
         where
           first : ℕ
           first = runFirst (suc y) ls
@@ -112,7 +120,9 @@ module _ {p : Plan} (w : WithoutFault p) where
                 matrix = D;
                 stands = stands-same t (climb-within p (s .climbed) h e run (q .levelled .peaked) top);
               }
-          answered (inr f) = record { grades = s .grades; climbed = climb-no p (s .climbed) h e run (q .levelled .peaked) top (λ u l i. f u (l, i)); matrix = s .matrix; stands = s .stands }
+          answered (inr f) =
+              let c = climb-no p (s .climbed) h e run (q .levelled .peaked) top (λ u l i. f u (l, i)) in
+              record { grades = s .grades; climbed = c; matrix = s .matrix; stands = s .stands }
 
   -- the first r records, at grade y + 1
   records-asked : {y : ℕ} → y < TOP-LEVEL → Stage y 0 → (r : ℕ) → r ≤ length (p .records) → Stage y r
@@ -124,15 +134,21 @@ module _ {p : Plan} (w : WithoutFault p) where
       let t : Stage y (length (p .records)) = records-asked top s (length (p .records)) (omega arith) in
       record { grades = t .grades; climbed = climb-next p (t .climbed); matrix = t .matrix; stands = t .stands }
 
-  all-grades : Stage 0 0 → (y : ℕ) → y ≤ TOP-LEVEL → Stage y 0
-  all-grades s zero l = s
-  all-grades s (suc y) l = one-grade l (all-grades s y (omega arith))
+  -- m grades above the first
+  more-grades : Stage LEAST-LEVEL 0 → (m : ℕ) → LEAST-LEVEL + m ≤ TOP-LEVEL → Stage (LEAST-LEVEL + m) 0
+  more-grades s zero l = s
+  more-grades s (suc m) l = subst (λ (y : ℕ). Stage y 0) (omega arith) (one-grade (omega arith) (more-grades s m (omega arith)))
 
   -- best times, of them the least
   pub plan-solved : {D : Distances} → Stands (p .events) D (Timetable p) → (ts : List ℤ) × (ls : List ℕ) × Solved p ts ls
   plan-solved {D} s =
-      let z : Stage 0 0 = record { grades = replicate (wishes p) 0; climbed = climb-start p (earliest D) (stands-earliest (w .some) s); matrix = D; stands = stands-same s (all-left p) } in
-      let l : Stage TOP-LEVEL 0 = all-grades z TOP-LEVEL (omega arith) in
+      let first : Stage LEAST-LEVEL 0 = record {
+        grades = replicate (wishes p) LEAST-LEVEL;
+        climbed = climb-start p (earliest D) (stands-earliest (w .some) s);
+        matrix = D;
+        stands = stands-same s (all-left p);
+      } in
+      let l : Stage TOP-LEVEL 0 = more-grades first (TOP-LEVEL - LEAST-LEVEL) (omega arith) in
       let t : Times = earliest (l .matrix) in
       let ts : List ℤ = timesFrom t 0 (p .events) in
       let best : Stands (p .events) (l .matrix) (BestTimes p) = stands-same (l .stands) (climb-best p (l .climbed)) in

@@ -8,6 +8,7 @@ use lib.ListN.{length}
 use Rattle.ticks.proofs.Ticks.{ticks}
 use Rattle.meaning.specs.Plan.{Plan, recordAt, Times, Timetable}
 use Rattle.meaning.specs.Bounds.{Bound, upper, lower, Holds}
+use Rattle.meaning.specs.Faultless.{WithoutFault}
 use Rattle.meaning.specs.Distances.{Distances, Stands, Adds, addedBound, Meets, Clashes, horizonOnly, earliest}
 use Rattle.meaning.proofs.Distances.{adds-closed, adds-keeps, adds-old, adds-new, start-closed, start-means, means-start, earliest-holds}
 use Rattle.meaning.proofs.Bounds.{Placed, UpTo, up-to-none, up-to-next, up-to-less, up-to-upper, up-to-lower, up-to-all, timetable-up-to}
@@ -47,8 +48,9 @@ module _ (p : Plan) where
   pub stands-horizon : 0 < p .events → Stands (p .events) (horizonOnly (p .horizon)) (UpTo p 0)
   stands-horizon z = record { closed = start-closed (p .events) (p .horizon); into = λ u. means-start (u .inside); from = λ k. up-to-none (start-means z k) }
 
-  pub stands-next : {k : ℕ} {D : Distances} → Stands (p .events) D (With (lower k (recordAt p k)) (With (upper k (recordAt p k)) (UpTo p k))) → Stands (p .events) D (UpTo p (suc k))
+  pub stands-next : {k : ℕ} {D : Distances} → Stands (p .events) D (With (lower k (recordAt p k)) (With (upper k (recordAt p k)) (UpTo p k))) →
+      Stands (p .events) D (UpTo p (suc k))
   stands-next s = stands-same s (λ t. (λ y. up-to-next (y .0 .0) (y .0 .1) (y .1), λ u. ((up-to-less u, up-to-upper u), up-to-lower u)))
 
-  pub stands-all : {D : Distances} → Stands (p .events) D (UpTo p (length (p .records))) → Stands (p .events) D (Timetable p)
-  stands-all s = stands-same s (λ t. (up-to-all, λ h. timetable-up-to h (length (p .records)) (omega arith)))
+  pub stands-all : WithoutFault p → {D : Distances} → Stands (p .events) D (UpTo p (length (p .records))) → Stands (p .events) D (Timetable p)
+  stands-all w s = stands-same s (λ t. (up-to-all w, λ h. timetable-up-to h (length (p .records)) (omega arith)))

@@ -1,5 +1,5 @@
 -- Levels that fairness, Pareto optimality and the greatest least level exclude, so that none of the three says too little: in case 6 the levels 1, 1,
--- and in case 5 the levels 5, 0. What excludes them is the timetable of the table, which has 1, 3 and 1, 1.
+-- and in case 5 with every level one higher the levels 6, 1. What excludes them is the timetable of the table, which has 1, 3 and 2, 2.
 use mathlib.Core.Path.{_≡_, refl, sym, ap, subst, _∙_}
 use mathlib.Core.List.{List, [], _∷_, List·Memᴰ}
 use Prim.Native.Nat.{ℕ, zero, suc, _≤_, _<_}
@@ -11,10 +11,10 @@ use Rattle.meaning.specs.Plan.{Plan, Times, Timetable, levels, wishes}
 use Rattle.meaning.specs.Reading.{plan, read}
 use Rattle.meaning.specs.Ladder.{lv, Loss, Fair, Pareto, Highest}
 use Rattle.meaning.specs.Outcome.{solved, at, Solved, Right}
-use Rattle.meaning.specs.Known.{bytes, CASE-5, CASE-6, table}
+use Rattle.meaning.specs.Known.{bytes, CASE-5-RAISED, CASE-6, table}
 use Rattle.meaning.proofs.Levels.{levels-count}
 use Rattle.meaning.proofs.KnownRight.{known-right}
-use Rattle.meaning.proofs.Idle.{row, case-5, case-6}
+use Rattle.meaning.proofs.Idle.{row, case-5-raised, case-6}
 
 -- a timetable with two levels
 record Two (p : Plan) (x y : ℕ) : Type 0 where
@@ -70,8 +70,10 @@ stopped-not-pareto p r t e f = omega (arith, pareto-second p t (known-two case-6
 
 -- ---- letting the first wish climb is neither fair, nor is its least level the greatest
 
-pub climbed-unfair : (p : Plan) → read (bytes CASE-5) ≡ plan p → (t : Times) → levels p t ≡ 5 ∷ 0 ∷ [] → ¬ Fair (Timetable p) (levels p) (wishes p) t
-climbed-unfair p r t e f = omega (arith, fair-first p t (known-two case-5 p r) e f (omega arith) .1)
+pub climbed-unfair : (p : Plan) → read (bytes CASE-5-RAISED) ≡ plan p → (t : Times) → levels p t ≡ 6 ∷ 1 ∷ [] →
+    ¬ Fair (Timetable p) (levels p) (wishes p) t
+climbed-unfair p r t e f = omega (arith, fair-first p t (known-two case-5-raised p r) e f (omega arith) .1)
 
-pub climbed-not-highest : (p : Plan) → read (bytes CASE-5) ≡ plan p → (t : Times) → levels p t ≡ 5 ∷ 0 ∷ [] → ¬ Highest (Timetable p) (levels p) (wishes p) t
-climbed-not-highest p r t e f = omega (arith, highest-second p t (known-two case-5 p r) e f 1 (omega arith) (omega arith))
+pub climbed-not-highest : (p : Plan) → read (bytes CASE-5-RAISED) ≡ plan p → (t : Times) → levels p t ≡ 6 ∷ 1 ∷ [] →
+    ¬ Highest (Timetable p) (levels p) (wishes p) t
+climbed-not-highest p r t e f = omega (arith, highest-second p t (known-two case-5-raised p r) e f 2 (omega arith) (omega arith))

@@ -2,7 +2,8 @@
 -- added, since two walks that the new bound joins to a lighter one have no event in common. Such a walk is tight at every step.
 use mathlib.Core.Path.{_≡_, refl, ap, sym, subst, _∙_}
 use mathlib.Core.Logic.{⊎-elim}
-use mathlib.Core.List.{List, [], _∷_, _++_, List·Memᴰ, List·Memᴰ·head, List·Memᴰ·tail, List·Memᴰ·not-nil, List·Memᴰ·eq-of-singleton, List·Memᴰ·append-cases, List·Memᴰ·cases-cons, map-append, Memᴰ·append-left, Memᴰ·append-right}
+use mathlib.Core.List.{List, [], _∷_, _++_, map-append, List·Memᴰ, List·Memᴰ·head, List·Memᴰ·tail, List·Memᴰ·not-nil, List·Memᴰ·eq-of-singleton}
+use mathlib.Core.List.{List·Memᴰ·append-cases, List·Memᴰ·cases-cons, Memᴰ·append-left, Memᴰ·append-right}
 use Prim.Native.Nat.{ℕ, _≤_, _<_}
 use native.Mathlib.Decide.{ℕ-discrete}
 use native.Mathlib.Omega.{arith}
@@ -37,7 +38,13 @@ pub record Parted (i v j : ℕ) (bs : List Bound) : Type 0 where
 
 -- at each event on the way they can be
 pub part : {i j : ℕ} {bs : List Bound} → Leads i bs j → (v : ℕ) → List·Memᴰ v (i ∷ ends bs) → Parted i v j bs
-part {i} {j} {bs} l v (List·Memᴰ·head e) = record { front = []; back = bs; whole = refl; comes = subst (λ (z : ℕ). Leads i [] z) (sym e) stop; goes = subst (λ (z : ℕ). Leads z bs j) (sym e) l }
+part {i} {j} {bs} l v (List·Memᴰ·head e) = record {
+  front = [];
+  back = bs;
+  whole = refl;
+  comes = subst (λ (z : ℕ). Leads i [] z) (sym e) stop;
+  goes = subst (λ (z : ℕ). Leads z bs j) (sym e) l;
+}
 part (step {b = b} l) v (List·Memᴰ·tail m) =
     let p = part l v m in
     record { front = b ∷ p .front; back = p .back; whole = ap {B = List Bound} (λ z. b ∷ z) (p .whole); comes = step (p .comes); goes = p .goes }
@@ -86,7 +93,8 @@ walks-same f W = record {
     leads = w .leads;
     sums = w .sums ∙ sym (f i j hi hj);
     simple = w .simple;
-    known = λ b m. let k = w .known b m in record { given = k .given; starts = k .starts; ends = k .ends; light = rw (f (b .start) (b .end) (k .starts) (k .ends)) (k .light) };
+    known = λ b m. let k = w .known b m in
+        record { given = k .given; starts = k .starts; ends = k .ends; light = rw (f (b .start) (b .end) (k .starts) (k .ends)) (k .light) };
   };
 }
 
@@ -176,7 +184,9 @@ module _ {n : ℕ} {G : Bound → Type 0} {D D′ : Distances} {β : Bound} (c :
       steps = P .steps ++ β ∷ Q .steps;
       leads = leads-join (P .leads) (step (Q .leads));
       sums = omega (ticks, e .at hi hj, total-join (P .steps) (β ∷ Q .steps), sum (β .weight) (total (Q .steps)), P .sums, Q .sums);
-      known = λ x m. ⊎-elim (λ q. knows-old x (P .known x q)) (λ q. ⊎-elim (λ r. subst (Known n G D′) (sym r) knows-new) (λ r. knows-old x (Q .known x r)) (List·Memᴰ·cases-cons q)) (List·Memᴰ·append-cases (P .steps) m);
+      known = λ x m. ⊎-elim (λ q. knows-old x (P .known x q))
+          (λ q. ⊎-elim (λ r. subst (Known n G D′) (sym r) knows-new) (λ r. knows-old x (Q .known x r)) (List·Memᴰ·cases-cons q))
+          (List·Memᴰ·append-cases (P .steps) m);
       simple = rw map-append (distinct-join (i ∷ ends (P .steps)) (β .end ∷ ends (Q .steps)) (P .simple) (Q .simple) (apart less));
     }
 
@@ -233,7 +243,8 @@ module _ (n H : ℕ) (G : Bound → Type 0) (uppers : (e : ℕ) → 1 ≤ e → 
     leads = step (step stop);
     sums = omega (ticks, start-else H i j z a);
     known = two-known (knows-lower y hi) (knows-upper z hj);
-    simple = distinct-cons i (0 ∷ j ∷ []) (λ m. ⊎-elim y (λ q. a (List·Memᴰ·eq-of-singleton q)) (List·Memᴰ·cases-cons m)) (distinct-cons 0 (j ∷ []) (λ m. z (sym (List·Memᴰ·eq-of-singleton m))) tt);
+    simple = distinct-cons i (0 ∷ j ∷ []) (λ m. ⊎-elim y (λ q. a (List·Memᴰ·eq-of-singleton q)) (List·Memᴰ·cases-cons m))
+        (distinct-cons 0 (j ∷ []) (λ m. z (sym (List·Memᴰ·eq-of-singleton m))) tt);
   }
 
   pub walks-horizon : Walks n G (horizonOnly H)

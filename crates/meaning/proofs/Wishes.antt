@@ -9,16 +9,17 @@ use native.Mathlib.Omega.{arith}
 use lib.ListN.{length, getD, set, replicate}
 use lib.Seq.{take-length}
 use lib.IntN.{ℤ, _-ℤ_}
-use Rattle.meaning.specs.Plan.{Record, rule, wish, nothing, Plan, recordAt, Times, Timetable, levelAt, levelsOf, levels, wishCount, wishes, TOP-LEVEL}
+use Rattle.meaning.specs.Plan.{Record, rule, wish, nothing, Plan, recordAt, Times, Timetable, levelAt, levelsOf, levels, wishCount, wishes}
+use Rattle.meaning.specs.Plan.{TOP-LEVEL, LEAST-LEVEL}
 use Rattle.meaning.specs.Ladder.{lv}
 use Rattle.meaning.specs.Peak.{SinglePeaked}
 use Rattle.meaning.specs.Outcome.{BestTimes}
-use Rattle.meaning.specs.Run.{Run}
 use Rattle.meaning.specs.Faultless.{WithoutFault}
 use Rattle.meaning.specs.Climb.{wishesBefore, Left, Climbed, number, ClimbedTo}
-use Rattle.meaning.proofs.Levels.{levels-count, levels-mild}
+use Rattle.meaning.proofs.Levels.{levels-count, levels-allowed, levels-mild}
 use Rattle.meaning.proofs.Climb.{raised, fails-again, reached-start, reached-yes, reached-no, reached-next, reached-best, reached-levels}
-use Rattle.meaning.proofs.Peaks.{InRun, level-bounds}
+use Rattle.meaning.proofs.Runs.{Run, InRun}
+use Rattle.meaning.proofs.Peaks.{level-bounds}
 
 -- ---- record r is a wish
 
@@ -44,7 +45,8 @@ module _ {a b : ℕ} {lo : ℤ} {ls : List ℕ} where
   next-wish (wish c d l k ∷ rs) (suc r) h e = ap suc (next-wish rs r (le-of-suc-le-suc h) e)
 
 -- and the same after a rule
-pub next-rule : {a b : ℕ} {lo hi : ℤ} (rs : List Record) (r : ℕ) → r < length rs → getD rs r nothing ≡ rule a b lo hi → wishesBefore rs (suc r) ≡ wishesBefore rs r
+pub next-rule : {a b : ℕ} {lo hi : ℤ} (rs : List Record) (r : ℕ) → r < length rs → getD rs r nothing ≡ rule a b lo hi →
+    wishesBefore rs (suc r) ≡ wishesBefore rs r
 next-rule [] r h e = absurd (not-suc-le-zero h)
 next-rule (x ∷ rs) zero h e = subst⁻¹ (λ (z : Record). wishCount (z ∷ []) ≡ 0) e refl
 next-rule (rule c d l k ∷ rs) (suc r) h e = next-rule rs r (le-of-suc-le-suc h) e
@@ -56,7 +58,8 @@ wishes-few [] = omega arith
 wishes-few (rule a b lo hi ∷ rs) = omega (arith, wishes-few rs)
 wishes-few (wish a b lo ls ∷ rs) = omega (arith, wishes-few rs)
 
-pub wish-below : {a b : ℕ} {lo : ℤ} {ls : List ℕ} (rs : List Record) (k : ℕ) → k < length rs → getD rs k nothing ≡ wish a b lo ls → wishesBefore rs k < length rs
+pub wish-below : {a b : ℕ} {lo : ℤ} {ls : List ℕ} (rs : List Record) (k : ℕ) → k < length rs → getD rs k nothing ≡ wish a b lo ls →
+    wishesBefore rs k < length rs
 wish-below rs k l e = omega (arith, wish-number rs k l e, wishes-few rs)
 
 -- past the last record all wishes are counted
@@ -65,19 +68,21 @@ all-wishes rs = ap wishCount (take-length rs)
 
 module _ (p : Plan) where
   -- the question "grade y or more?" of the wish that is record r, as two bounds
-  pub question-bounds : {y r a b first past : ℕ} {lo : ℤ} {ls : List ℕ} → r < length (p .records) → recordAt p r ≡ wish a b lo ls → Run y ls first past → SinglePeaked ls →
-      1 ≤ y → y ≤ TOP-LEVEL → (t : Times) → (y ≤ lv (levels p t) (number p r)) ↔ InRun lo first past (t b -ℤ t a)
+  pub question-bounds : {y r a b first past : ℕ} {lo : ℤ} {ls : List ℕ} → r < length (p .records) → recordAt p r ≡ wish a b lo ls →
+      Run y ls first past → SinglePeaked ls → 1 ≤ y → y ≤ TOP-LEVEL → (t : Times) → (y ≤ lv (levels p t) (number p r)) ↔ InRun lo first past (t b -ℤ t a)
   question-bounds {y} {r} {a} {b} {first} {past} {lo} {ls} h e run s one top t =
       subst⁻¹ (λ (n : ℕ). (y ≤ n) ↔ InRun lo first past (t b -ℤ t a)) (wish-level t (p .records) r h e)
       (level-bounds run s one top (t b -ℤ t a) lo)
 
   -- ---- the climb, record by record: y grades are done, and r records of the next
 
-  pub climb-start : (t : Times) → Timetable p t → ClimbedTo p 0 0 (replicate (wishes p) 0)
-  climb-start t h = reached-start t h
+  -- the first grade is part of the plan
+  pub climb-start : (t : Times) → Timetable p t → ClimbedTo p LEAST-LEVEL 0 (replicate (wishes p) LEAST-LEVEL)
+  climb-start t h = reached-start LEAST-LEVEL (λ u k. levels-allowed k) t h
 
   -- a rule has no question
-  pub climb-rule : {y r a b : ℕ} {lo hi : ℤ} {g : List ℕ} → ClimbedTo p y r g → r < length (p .records) → recordAt p r ≡ rule a b lo hi → ClimbedTo p y (suc r) g
+  pub climb-rule : {y r a b : ℕ} {lo hi : ℤ} {g : List ℕ} → ClimbedTo p y r g → r < length (p .records) → recordAt p r ≡ rule a b lo hi →
+      ClimbedTo p y (suc r) g
   climb-rule {y} {r} {g = g} c h e = subst⁻¹ (λ (k : ℕ). Climbed p y k g) (next-rule (p .records) r h e) c
 
   module _ {y r a b : ℕ} {lo : ℤ} {ls g : List ℕ} (c : ClimbedTo p y r g) (h : r < length (p .records)) (e : recordAt p r ≡ wish a b lo ls) where

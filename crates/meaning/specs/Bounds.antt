@@ -1,14 +1,15 @@
--- Bounds and chains: document 01, section 5.
+-- Bounds and chains: document 01, section 5, with T-04: the bounds of a wish are the ends of its run at grade 1.
 use mathlib.Core.Path.{_≡_}
 use mathlib.Core.List.{List, [], _∷_, _++_, map, List·Memᴰ}
 use mathlib.Core.Bool.{Bool, true, cond, _&&_, not}
 use Prim.Native.Nat.{ℕ, zero, suc, _+_, _*_, _-_, _≤_}
 use lib.Dec.{T, eqb}
 use lib.ListN.{length}
-use lib.IntN.{ℤ, pos, _+ℤ_, negℤ}
+use lib.IntN.{ℤ, pos, _+ℤ_, _-ℤ_, negℤ}
 use lib.Signed.{_≤ℤ_, _<ℤ_}
 use Rattle.meaning.specs.Plan as P
-use Rattle.meaning.specs.Plan.{Record, Plan, Times, MOST-RECORDS}
+use Rattle.meaning.specs.Plan.{Record, rule, wish, Plan, Times, MOST-RECORDS, LEAST-LEVEL}
+use Rattle.meaning.specs.Run.{runFirst, runPast}
 
 -- t(end) − t(start) ≤ weight
 pub record Bound : Type 0 where
@@ -21,12 +22,21 @@ pub record Bound : Type 0 where
 abbrev pub Holds : Times → Bound → Type 0
 Holds t b = t (b .end) ≤ℤ (t (b .start) +ℤ b .weight)
 
--- of record k: an upper bound from a to b with weight hi and code 2k, a lower one from b to a with weight −lo and code 2k + 1
+-- the shortest and the longest distance that a record allows: a rule's lo and hi, and the ends of a wish's run at grade 1
+abbrev pub shortest : Record → ℤ
+shortest (rule a b lo hi) = lo
+shortest (wish a b lo ls) = lo +ℤ pos (runFirst LEAST-LEVEL ls)
+
+abbrev pub longest : Record → ℤ
+longest (rule a b lo hi) = hi
+longest (wish a b lo ls) = lo +ℤ pos (runPast LEAST-LEVEL ls) -ℤ pos 1
+
+-- of record k: an upper bound from a to b whose weight is the longest and whose code is 2k, a lower one from b to a with the shortest, negated, and 2k + 1
 abbrev pub upper : ℕ → Record → Bound
-upper k r = record { start = P.start r; end = P.end r; weight = P.high r; code = 2 * k }
+upper k r = record { start = P.start r; end = P.end r; weight = longest r; code = 2 * k }
 
 abbrev pub lower : ℕ → Record → Bound
-lower k r = record { start = P.end r; end = P.start r; weight = negℤ (P.low r); code = 2 * k + 1 }
+lower k r = record { start = P.end r; end = P.start r; weight = negℤ (shortest r); code = 2 * k + 1 }
 
 -- the codes of the records are below the horizon's
 abbrev pub HORIZON-CODES : ℕ

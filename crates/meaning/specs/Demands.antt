@@ -13,8 +13,9 @@ use Rattle.meaning.specs.Plan.{Plan, Times, Timetable, levels, wishes}
 use Rattle.meaning.specs.Reading.{plan, refused, read}
 use Rattle.meaning.specs.Bounds.{Bound, Holds, bounds, Chain}
 use Rattle.meaning.specs.Ladder.{lv, Loss, Pareto, Highest}
+use Rattle.meaning.specs.Numbers.{NOTHING-ALLOWED}
 use Rattle.meaning.specs.Outcome.{Outcome, number, place, at, BestTimes, Areas, longEnough, heard, written, Promise}
-use Rattle.meaning.specs.Known.{Known, bytes, CASE-5, CASE-6, table}
+use Rattle.meaning.specs.Known.{Known, bytes, CASE-5, CASE-5-RAISED, CASE-6, table}
 
 -- what a call was given, and what came of it
 pub record Call : Type 0 where
@@ -50,7 +51,7 @@ pub record FrontOnly {A : Type 0} (k : ℕ) (before after : List A) : Type 0 whe
   pub rest : drop k after ≡ drop k before
 
 pub record Demand1 (c : Call) : Type 0 where
-  pub numbered : c .number ≤ 7
+  pub numbered : c .number ≤ NOTHING-ALLOWED
   -- "each has its condition in section 3", and it is the first in its order
   pub reason : 2 ≤ c .number → heard (c .before) (c .text) ≡ refused (c .number) (c .place)
   pub untouched : 2 ≤ c .number → c .after ≡ c .before
@@ -135,9 +136,10 @@ NeverEndsAt text g = (c : Call) → c .text ≡ bytes text → longEnough (c .be
 abbrev pub ClimbsOn : Type 0
 ClimbsOn = NeverEndsAt CASE-6 (1 ∷ 1 ∷ [])
 
--- section 8, "Letting the first wish climb as far as it can: case 5 ends at 5, 0"
+-- section 8, "Letting the first wish climb as far as it can: case 5 ends at 5, 0". Since T-04 level 0 is not allowed there, so that the same is said with
+-- every level one higher
 abbrev pub ClimbsTogether : Type 0
-ClimbsTogether = NeverEndsAt CASE-5 (5 ∷ 0 ∷ [])
+ClimbsTogether = NeverEndsAt CASE-5 (5 ∷ 0 ∷ []) × NeverEndsAt CASE-5-RAISED (6 ∷ 1 ∷ [])
 
 -- "One that invents the step count: demand 2, through section 5"
 abbrev pub CountsSteps : Type 0

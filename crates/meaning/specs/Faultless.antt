@@ -1,4 +1,4 @@
--- A plan without fault: what document 01, sections 1 and 4, allows, for each record and for the whole. What is read is one.
+-- A plan without fault: what document 01, sections 1 and 4, and T-04 allow, for each record and for the whole. What is read is one.
 use mathlib.Core.Path.{_≡_}
 use mathlib.Core.List.{List}
 use Prim.Native.Nat.{ℕ, _≤_, _<_}
@@ -6,7 +6,7 @@ use lib.ListN.{length, getD}
 use lib.IntN.{pos, negℤ}
 use lib.Signed.{_≤ℤ_}
 use Rattle.meaning.specs.Plan.{Record, rule, wish, Plan, recordAt, start, end, low, high}
-use Rattle.meaning.specs.Plan.{MOST-EVENTS, MOST-HORIZON, MOST-END, MOST-RECORDS, MOST-LEVELS, MOST-LEVELS-TOGETHER, TOP-LEVEL}
+use Rattle.meaning.specs.Plan.{MOST-EVENTS, MOST-HORIZON, MOST-END, MOST-RECORDS, MOST-LEVELS, MOST-LEVELS-TOGETHER, TOP-LEVEL, LEAST-LEVEL}
 use Rattle.meaning.specs.Peak.{SinglePeaked}
 use Rattle.meaning.specs.Reading.{levelsTogether}
 
@@ -15,6 +15,9 @@ pub record GoodLevels (ls : List ℕ) : Type 0 where
   pub few : length ls ≤ MOST-LEVELS
   pub mild : (i : ℕ) → getD ls i 0 ≤ TOP-LEVEL
   pub peaked : SinglePeaked ls
+  -- some distance is allowed
+  pub place : ℕ
+  pub allowed : LEAST-LEVEL ≤ getD ls place 0
 
 abbrev pub Levelled : Record → Type 0
 Levelled (rule a b lo hi) = Unit {0}

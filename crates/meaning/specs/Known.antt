@@ -1,4 +1,5 @@
--- The known plans of document 01, section 7: case 2 and the starred ones, 11 and 12, as one table of texts and outcomes.
+-- The known plans of document 01, section 7: case 2 and the starred ones, 11 and 12, as one table of texts and outcomes, as T-04 leaves them: cases 3 and 4
+-- have no timetable, and with every level one higher they, and case 5, show what they showed before.
 use mathlib.Core.List.{List, [], _∷_}
 use Prim.Native.Nat.{ℕ}
 use Prim.Native.Char.{code}
@@ -23,6 +24,10 @@ known t o = record { text = t; outcome = o }
 abbrev pub CASE-5 : String
 CASE-5 = "events\t2\t1\nwish\t0\t1\t0\t5\t1\nwish\t0\t1\t0\t0\t1\n"
 
+-- the same with every level one higher
+abbrev pub CASE-5-RAISED : String
+CASE-5-RAISED = "events\t2\t1\nwish\t0\t1\t0\t6\t2\nwish\t0\t1\t0\t1\t2\n"
+
 abbrev pub CASE-6 : String
 CASE-6 = "events\t3\t10\nwish\t0\t1\t0\t1\nwish\t1\t2\t1\t1\t2\t3\n"
 
@@ -37,15 +42,20 @@ table =
     known "events\t1\t0\n" (solved (pos 0 ∷ []) [])
     ∷ known "events\t4\t20\nrule\t0\t1\t3\t3\nrule\t1\t2\t0\t20\nwish\t2\t3\t2\t0\t1\t3\t2\nwish\t0\t3\t4\t3\t3\t2\t2\t1\t0\n"
     (solved (pos 0 ∷ pos 3 ∷ pos 3 ∷ pos 7 ∷ []) (3 ∷ 2 ∷ []))
-    ∷ known "events\t2\t1\nwish\t0\t1\t0\t0\t1\nwish\t0\t1\t0\t1\t0\n" (solved (pos 0 ∷ pos 1 ∷ []) (1 ∷ 0 ∷ []))
-    ∷ known "events\t2\t1\nwish\t0\t1\t0\t1\t0\nwish\t0\t1\t0\t0\t1\n" (solved (pos 0 ∷ pos 0 ∷ []) (1 ∷ 0 ∷ []))
+    ∷ known "events\t2\t1\nwish\t0\t1\t0\t0\t1\nwish\t0\t1\t0\t1\t0\n" (none (2 ∷ 1 ∷ []))
+    ∷ known "events\t2\t1\nwish\t0\t1\t0\t1\t0\nwish\t0\t1\t0\t0\t1\n" (none (0 ∷ 3 ∷ []))
+    ∷ known "events\t2\t1\nwish\t0\t1\t0\t1\t2\nwish\t0\t1\t0\t2\t1\n" (solved (pos 0 ∷ pos 1 ∷ []) (2 ∷ 1 ∷ []))
+    ∷ known "events\t2\t1\nwish\t0\t1\t0\t2\t1\nwish\t0\t1\t0\t1\t2\n" (solved (pos 0 ∷ pos 0 ∷ []) (2 ∷ 1 ∷ []))
     ∷ known CASE-5 (solved (pos 0 ∷ pos 1 ∷ []) (1 ∷ 1 ∷ []))
+    ∷ known CASE-5-RAISED (solved (pos 0 ∷ pos 1 ∷ []) (2 ∷ 2 ∷ []))
     ∷ known CASE-6 (solved (pos 0 ∷ pos 0 ∷ pos 3 ∷ []) (1 ∷ 3 ∷ []))
     ∷ known CASE-7 (none (4 ∷ 3 ∷ 1 ∷ []))
     ∷ known CASE-8 (solved (pos 0 ∷ pos 4 ∷ pos 8 ∷ []) [])
     ∷ known "events\t2\t3\nrule\t0\t1\t4\t10\n" (none (514 ∷ 1 ∷ []))
     ∷ known "events\t2\t4\nrule\t0\t1\t4\t10\n" (solved (pos 0 ∷ pos 4 ∷ []) [])
     ∷ known "events\t2\t9\nwish\t0\t1\t0\t2\t1\t2\n" (refusal 6 2)
+    ∷ known "events\t2\t9\nwish\t0\t1\t0\t0\t0\t0\n" (refusal 8 2)
+    ∷ known "events\t2\t9\nwish\t1\t1\t0\t0\t0\t0\n" (refusal 5 2)
     ∷ known "events\t2\t9\nrule\t1\t1\t5\t4\n" (refusal 4 2)
     ∷ known "events\t2\t9\nrule\t1\t1\t4\t5\n" (refusal 5 2)
     ∷ known "events\t2\t9\nrule\t0\t1\t-0\t4\n" (refusal 2 2)

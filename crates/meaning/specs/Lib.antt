@@ -1,7 +1,8 @@
--- Document 01 as definitions, a file a section: what must be believed.
+-- Documents 01 and 02 as definitions, a file a section: what must be believed.
 pub mod Plan
 pub mod Numbers
 pub mod Peak
+pub mod Run
 pub mod Reading
 pub mod Bounds
 pub mod Ladder
@@ -12,5 +13,4 @@ pub mod Demands
 -- what the contracts of the crates above speak of besides: no part of the public promise
 pub mod Faultless
 pub mod Distances
-pub mod Run
 pub mod Climb

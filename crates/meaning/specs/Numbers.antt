@@ -1,4 +1,4 @@
--- The numbers of an outcome: document 01, section 3.
+-- The numbers of an outcome: document 01, section 3, and T-04.
 use Prim.Native.Nat.{ℕ}
 
 abbrev pub SOLVED : ℕ
@@ -30,3 +30,7 @@ NOT-PEAKED = 6
 -- a result area too short
 abbrev pub AREA-TOO-SHORT : ℕ
 AREA-TOO-SHORT = 7
+
+-- all levels of a wish are 0 (T-04)
+abbrev pub NOTHING-ALLOWED : ℕ
+NOTHING-ALLOWED = 8

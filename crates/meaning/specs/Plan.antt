@@ -1,8 +1,8 @@
--- Plans and timetables: document 01, section 1, and the levels that a timetable gives to the wishes.
+-- Plans and timetables: document 01, section 1, with T-04 (level 0 means not allowed), and the levels that a timetable gives to the wishes.
 use mathlib.Core.Path.{_≡_}
 use mathlib.Core.List.{List, [], _∷_}
 use mathlib.Core.Bool.{cond}
-use Prim.Native.Nat.{ℕ, suc, _<_}
+use Prim.Native.Nat.{ℕ, suc, _≤_, _<_}
 use lib.ListN.{length, getD}
 use lib.IntN.{ℤ, pos, _+ℤ_, _-ℤ_, natAbs}
 use lib.Signed.{_≤ℤ_, nonNeg}
@@ -32,6 +32,10 @@ MOST-BYTES = 60000
 
 abbrev pub TOP-LEVEL : ℕ
 TOP-LEVEL = 15
+
+-- the least level of a distance that is allowed
+abbrev pub LEAST-LEVEL : ℕ
+LEAST-LEVEL = 1
 
 -- ---- plans
 
@@ -77,26 +81,27 @@ recordAt p k = getD (p .records) k nothing
 abbrev pub Times : Type 0
 Times = ℕ → ℤ
 
--- t(b) − t(a)
-abbrev pub distance : Times → Record → ℤ
-distance t r = t (end r) -ℤ t (start r)
-
 -- lo ≤ d ≤ hi
 pub record Within (lo d hi : ℤ) : Type 0 where
   pub above : lo ≤ℤ d
   pub below : d ≤ℤ hi
 
--- keeps the horizon, all rules and all wish spans
+-- the level at distance lo + i is entry i; any other distance has level 0
+abbrev pub levelAt : List ℕ → ℤ → ℕ
+levelAt ls i = cond (nonNeg i) (getD ls (natAbs i) 0) 0
+
+-- the record allows these times: a rule from lo to hi, a wish at level 1 or more
+abbrev pub Allows : Record → Times → Type 0
+Allows (rule a b lo hi) t = Within lo (t b -ℤ t a) hi
+Allows (wish a b lo ls) t = LEAST-LEVEL ≤ levelAt ls (t b -ℤ t a -ℤ lo)
+
+-- keeps the horizon and all rules, and has level 1 or more at each wish
 pub record Timetable (p : Plan) (t : Times) : Type 0 where
   pub origin : t 0 ≡ pos 0
   pub within : (e : ℕ) → e < p .events → Within (pos 0) (t e) (pos (p .horizon))
-  pub keeps : (k : ℕ) → k < length (p .records) → Within (low (recordAt p k)) (distance t (recordAt p k)) (high (recordAt p k))
+  pub keeps : (k : ℕ) → k < length (p .records) → Allows (recordAt p k) t
 
 -- ---- levels
-
--- the level at distance lo + i is entry i
-abbrev pub levelAt : List ℕ → ℤ → ℕ
-levelAt ls i = cond (nonNeg i) (getD ls (natAbs i) 0) 0
 
 -- the levels of the wishes, in record order
 abbrev pub levelsOf : List Record → Times → List ℕ

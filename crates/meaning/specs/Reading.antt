@@ -10,7 +10,7 @@ use lib.Signed.{leZ, ltZ}
 use Rattle.meaning.specs.Plan.{Record, rule, wish, Plan}
 use Rattle.meaning.specs.Plan.{MOST-EVENTS, MOST-HORIZON, MOST-END, MOST-RECORDS, MOST-LEVELS, MOST-LEVELS-TOGETHER, MOST-BYTES, TOP-LEVEL}
 use Rattle.meaning.specs.Peak.{peaked}
-use Rattle.meaning.specs.Numbers.{WRONG-FORM, TOO-MANY, OUT-OF-RANGE, SAME-EVENT, NOT-PEAKED}
+use Rattle.meaning.specs.Numbers.{WRONG-FORM, TOO-MANY, OUT-OF-RANGE, SAME-EVENT, NOT-PEAKED, NOTHING-ALLOWED}
 
 -- ---- bytes
 
@@ -145,6 +145,11 @@ inRange n a b lo hi = isEvent n a && (isEvent n b && (isEnd lo && isEnd hi))
 abbrev pub sameEvent : ℤ → ℤ → Bool
 sameEvent a b = leZ a b && leZ b a
 
+-- no distance of a wish is allowed
+abbrev pub allZero : List ℕ → Bool
+allZero [] = true
+allZero (l ∷ ls) = eqb l 0 && allZero ls
+
 -- the distance of a wish's last level
 abbrev pub lastOf : ℤ → List ℤ → ℤ
 lastOf lo ls = lo +ℤ pos (length ls - 1)
@@ -178,7 +183,7 @@ firstLine (ruleLine a b lo hi) = fault WRONG-FORM
 firstLine (wishLine a b lo ls) = fault WRONG-FORM
 firstLine wrong = fault WRONG-FORM
 
--- a later line is `rule` or `wish`; its first fault in the order 2, 3, 4, 5, 6
+-- a later line is `rule` or `wish`; its first fault in the order 2, 3, 4, 5, 6, 8
 abbrev pub laterLine : Plan → Form → Step
 laterLine p (eventsLine n h) = fault WRONG-FORM
 laterLine p (ruleLine a b lo hi) =
@@ -192,7 +197,8 @@ laterLine p (wishLine a b lo ls) =
     (unless (inRange (p .events) a b lo (lastOf lo ls) && allLevels ls) OUT-OF-RANGE
     (unless (not (sameEvent a b)) SAME-EVENT
     (unless (peaked (map natAbs ls)) NOT-PEAKED
-    (taken (withRecord p (wish (natAbs a) (natAbs b) lo (map natAbs ls)))))))
+    (unless (not (allZero (map natAbs ls))) NOTHING-ALLOWED
+    (taken (withRecord p (wish (natAbs a) (natAbs b) lo (map natAbs ls))))))))
 laterLine p wrong = fault WRONG-FORM
 
 unfoldable pub lineStep : ℕ → Plan → Form → Step

@@ -13,10 +13,10 @@ use Rattle.meaning.specs.Plan as M
 use Rattle.meaning.specs.Plan.{MOST-LEVELS-TOGETHER, nothing, recordAt}
 use Rattle.meaning.specs.Reading.{levelsTogether}
 use Rattle.meaning.proofs.Slices.{slice-at}
-use Rattle.meaning.specs.Faultless.{WithoutFault, Levelled}
+use Rattle.meaning.specs.Faultless.{Levelled}
 use Rattle.plan.specs.declared.Record.{Record}
 use Rattle.plan.specs.declared.Plan.{Plan}
-use Rattle.plan.specs.Held.{levelsIn, rowOf, rowsOf, flat, blank, Holds}
+use Rattle.plan.specs.Held.{levelsIn, rowOf, rowsOf, levelsAt, flat, blank, Holds, InMemory}
 use Rattle.plan.proofs.Growth.{together-cons}
 
 abbrev pub rowAt : Plan → ℕ → Record
@@ -38,20 +38,20 @@ held-row {p} o k = rw (o .rows k) (row-of 0 (p .records) k)
 abbrev placeOf : List M.Record → ℕ → ℕ
 placeOf rs k = levelsTogether (take k rs)
 
-abbrev levelsAt : List M.Record → ℕ → List ℕ
-levelsAt rs k = levelsIn (getD rs k nothing)
+abbrev own : List M.Record → ℕ → List ℕ
+own rs k = levelsIn (getD rs k nothing)
 
 first-is : (at : ℕ) (rs : List M.Record) (k : ℕ) → k < length rs → getD (rowsOf at rs) k blank .first ≡ at + placeOf rs k
 first-is at [] k h = absurd (omega arith)
 first-is at (r ∷ rs) zero h = omega arith
 first-is at (r ∷ rs) (suc k) h = omega (arith, first-is (at + length (levelsIn r)) rs k (omega arith), together-cons r (take k rs))
 
-place-fits : (rs : List M.Record) (k : ℕ) → k < length rs → placeOf rs k + length (levelsAt rs k) ≤ levelsTogether rs
+place-fits : (rs : List M.Record) (k : ℕ) → k < length rs → placeOf rs k + length (own rs k) ≤ levelsTogether rs
 place-fits [] k h = absurd (omega arith)
 place-fits (r ∷ rs) zero h = omega (arith, together-cons r rs)
 place-fits (r ∷ rs) (suc k) h = omega (arith, together-cons r rs, together-cons r (take k rs), place-fits rs k (omega arith))
 
-level-at : (rs : List M.Record) (k j : ℕ) → k < length rs → j < length (levelsAt rs k) → getD (flat rs) (placeOf rs k + j) 0 ≡ getD (levelsAt rs k) j 0
+level-at : (rs : List M.Record) (k j : ℕ) → k < length rs → j < length (own rs k) → getD (flat rs) (placeOf rs k + j) 0 ≡ getD (own rs k) j 0
 level-at [] k j h l = absurd (omega arith)
 level-at (r ∷ rs) zero j h l =
     let q : 0 + j ≡ j = omega arith in
@@ -65,25 +65,31 @@ level-at (r ∷ rs) (suc k) j h l =
 -- record m stands in row x, its levels in the area
 pub record RowHeld (x : Record) (m : M.Record) (area : List ℕ) : Type 0 where
   pub row : x ≡ rowOf (x .first) m
-  pub levels : slice (x .first) (x .first + length (levelsIn m)) area ≡ levelsIn m
-  pub inside : x .first + length (levelsIn m) ≤ length area
+  pub levels : levelsAt x area ≡ levelsIn m
+  pub inside : x .first + x .count ≤ length area
 
 -- a record made again from its row and the area of all levels
 abbrev pub recordOf : List ℕ → Record → M.Record
-recordOf levels r =
-    cond (eqb (r .count) 0) (M.rule (r .a) (r .b) (r .lo) (r .hi))
-    (M.wish (r .a) (r .b) (r .lo) (slice (r .first) (r .first + r .count) levels))
+recordOf area x = cond (eqb (x .count) 0) (M.rule (x .a) (x .b) (x .lo) (x .hi)) (M.wish (x .a) (x .b) (x .lo) (levelsAt x area))
 
-again : (area : List ℕ) (n : ℕ) (m : M.Record) → Levelled m → slice n (n + length (levelsIn m)) area ≡ levelsIn m → recordOf area (rowOf n m) ≡ m
+again : (area : List ℕ) (n : ℕ) (m : M.Record) → Levelled m → levelsAt (rowOf n m) area ≡ levelsIn m → recordOf area (rowOf n m) ≡ m
 again area n (M.rule a b lo hi) g e = refl
 again area n (M.wish a b lo ls) g e =
     let some : eqb (length ls) 0 ≡ false = ne-eqb (length ls) 0 (λ z. omega (arith, g .some)) in
     rw (some, e)
 
-module _ {p : M.Plan} {h : Plan} (area : List ℕ) (o : Holds p h) (f : WithoutFault p) (room : MOST-LEVELS-TOGETHER ≤ length area)
-    (levels : (i : ℕ) → i < MOST-LEVELS-TOGETHER → getD area i 0 ≡ getD (flat (p .records)) i 0) (k : ℕ) (l : k < length (p .records)) where
-  pub row-held : RowHeld (rowAt h k) (recordAt p k) area
-  row-held = record { row = held-row o k; levels = rw place same; inside = omega (arith, place, fits, room) }
+row-past : (at : ℕ) (rs : List M.Record) (k : ℕ) → length rs ≤ k → getD (rowsOf at rs) k blank ≡ blank
+row-past at [] k h = refl
+row-past at (r ∷ rs) zero h = absurd (omega arith)
+row-past at (r ∷ rs) (suc k) h = row-past (at + length (levelsIn r)) rs k (omega arith)
+
+module _ {p : M.Plan} {h : Plan} {area : List ℕ} (o : InMemory p h area) (k : ℕ) where
+  -- past the last record
+  pub row-blank : length (p .records) ≤ k → rowAt h k ≡ blank
+  row-blank l = o .holds .rows k ∙ row-past 0 (p .records) k l
+
+  pub row-held : k < length (p .records) → RowHeld (rowAt h k) (recordAt p k) area
+  row-held l = record { row = row; levels = rw (count, place) same; inside = omega (arith, place, count, fits, o .room) }
     where
       n : ℕ
       n = placeOf (p .records) k
@@ -91,19 +97,27 @@ module _ {p : M.Plan} {h : Plan} (area : List ℕ) (o : Holds p h) (f : WithoutF
       ls : List ℕ
       ls = levelsIn (recordAt p k)
 
+      row : rowAt h k ≡ rowOf (rowAt h k .first) (recordAt p k)
+      row = held-row (o .holds) k
+
+      count : rowAt h k .count ≡ length ls
+      count = ap (λ (x : Record). x .count) row
+
       place : rowAt h k .first ≡ n
-      place = ap (λ (x : Record). x .first) (o .rows k) ∙ first-is 0 (p .records) k l ∙ omega arith
+      place = ap (λ (x : Record). x .first) (o .holds .rows k) ∙ first-is 0 (p .records) k l ∙ omega arith
 
       fits : n + length ls ≤ MOST-LEVELS-TOGETHER
-      fits = omega (arith, place-fits (p .records) k l, f .together)
+      fits = omega (arith, place-fits (p .records) k l, o .faultless .together)
 
       long : length (slice n (n + length ls) area) ≡ length ls
-      long = length-slice n (n + length ls) area (omega (arith, fits, room)) ∙ omega arith
+      long = length-slice n (n + length ls) area (omega (arith, fits, o .room)) ∙ omega arith
 
       same : slice n (n + length ls) area ≡ ls
       same = ext-getD 0 _ ls long (λ i q. let j : i < length ls = omega (arith, long) in
-          slice-at area n (n + length ls) i (omega arith) ∙ levels (n + i) (omega (arith, fits)) ∙ level-at (p .records) k i l j)
+          slice-at area n (n + length ls) i (omega arith) ∙ o .levels (n + i) (omega (arith, fits)) ∙ level-at (p .records) k i l j)
 
   -- nothing of a record is lost in memory: it is made again from its row
-  pub record-at : recordOf area (rowAt h k) ≡ recordAt p k
-  record-at = rw (row-held .row) (again area (rowAt h k .first) (recordAt p k) (f .each k l .levelled) (row-held .levels))
+  pub record-at : k < length (p .records) → recordOf area (rowAt h k) ≡ recordAt p k
+  record-at l =
+      let x = row-held l in
+      rw (x .row) (again area (rowAt h k .first) (recordAt p k) (o .faultless .each k l .levelled) (rw (x .row) at (x .levels)))

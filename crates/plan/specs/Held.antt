@@ -3,6 +3,7 @@ use mathlib.Core.Path.{_≡_}
 use mathlib.Core.List.{List, [], _∷_, _++_}
 use Prim.Native.Nat.{ℕ, _+_, _≤_, _<_}
 use lib.ListN.{length, getD}
+use lib.Seq.{slice}
 use lib.IntN.{pos}
 use Rattle.meaning.specs.Plan as M
 use Rattle.meaning.specs.Plan.{MOST-RECORDS, MOST-LEVELS-TOGETHER}
@@ -26,6 +27,10 @@ rowOf at r = record { a = M.start r; b = M.end r; first = at; count = length (le
 abbrev pub rowsOf : ℕ → List M.Record → List Record
 rowsOf at [] = []
 rowsOf at (r ∷ rs) = rowOf at r ∷ rowsOf (at + length (levelsIn r)) rs
+
+-- the levels of a row, in the area of all levels
+abbrev pub levelsAt : Record → List ℕ → List ℕ
+levelsAt x area = slice (x .first) (x .first + x .count) area
 
 -- the levels of all wishes, one wish after the other
 abbrev pub flat : List M.Record → List ℕ
@@ -58,3 +63,10 @@ pub record LevelsHeld (p : M.Plan) (before after : List ℕ) : Type 0 where
   pub long : length after ≡ length before
   pub done : (i : ℕ) → i < MOST-LEVELS-TOGETHER → getD after i 0 ≡ getD (flat (p .records)) i 0
   pub rest : (i : ℕ) → MOST-LEVELS-TOGETHER ≤ i → getD after i 0 ≡ getD before i 0
+
+-- a plan without fault in memory: the struct, and the levels of its wishes in their area
+pub record InMemory (p : M.Plan) (h : Plan) (area : List ℕ) : Type 0 where
+  pub holds : Holds p h
+  pub faultless : WithoutFault p
+  pub room : MOST-LEVELS-TOGETHER ≤ length area
+  pub levels : (i : ℕ) → i < MOST-LEVELS-TOGETHER → getD area i 0 ≡ getD (flat (p .records)) i 0

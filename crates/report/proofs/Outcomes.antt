@@ -63,6 +63,7 @@ pub record LeftSolved (text : List ℕ) (times : List ℤ) (levels : List ℕ) (
   pub long : planIn (read text) .events ≤ length times
 
 pub record LeftNone (text chain : List ℕ) (steps : ℕ) : Type 0 where
+  pub planned : read text ≡ plan (planIn (read text))
   pub right : Right (read text) (none (take steps chain))
   pub few : steps ≤ MOST-EVENTS
   pub long : steps ≤ length chain
@@ -116,6 +117,7 @@ module _ {text : List ℕ} {before : Areas} {times : List ℤ} {levels chain : L
           let q′ = none-plan (read text) h in
           let f : take steps chain ≡ cs = ap (λ (x : Areas). take steps (x .chain)) o ∙ over-front cs (before .chain) steps q in
           record {
+            planned = q′ .0;
             right = rw f h;
             few = omega (arith, ap length (q′ .1 .coded), length-map (q′ .1 .steps) (λ b. b .code), q′ .1 .most, read-faultless text (q′ .0) .most);
             long = omega (arith, over-room cs (before .chain), ap (λ (x : Areas). length (x .chain)) o);

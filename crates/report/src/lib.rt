@@ -21,7 +21,7 @@ fn put_outcome(out: &mut [u8], said: Answer, held: &[u8]) -> usize
     let mut chain = [0u16; MOST_EVENTS];
     match solver::outcome_of(said, held, &mut times, &mut levels, &mut chain) {
         Outcome::Solved(w) => forms::put_solved(out, said.plan, w, &times, &levels),
-        Outcome::NoTimetable(steps) => forms::put_none(out, said.plan, &chain, steps),
+        Outcome::NoTimetable(steps) => forms::put_none(out, said.plan, held, &chain, steps),
         Outcome::Refused(number, line) => forms::put_refused(out, number, line),
     }
 }

@@ -14,6 +14,7 @@ use Rattle.meaning.specs.Faultless.{WithoutFault}
 use Rattle.meaning.proofs.Levels.{levels-count}
 use Rattle.meaning.proofs.Solve.{earliest-solved}
 use Rattle.plan.specs.declared.Plan.{Plan}
+use Rattle.plan.specs.Held.{InMemory}
 use Rattle.distances.specs.Matrix.{at, Started, Timing}
 use Rattle.distances.specs.Sweep.{Swept}
 use Rattle.distances.proofs.Sweep.{swept-written}
@@ -22,7 +23,6 @@ use Rattle.chain.specs.Clash.{listed, Broken, Found}
 use Rattle.bounds.specs.Listed.{Listed}
 use Rattle.bounds.specs.Tried.{Trying, Tried}
 use Rattle.ladder.specs.Climbed.{Ready, Climbed}
-use Rattle.ladder.specs.Memory.{InMemory}
 use Rattle.settle.specs.Settled.{Settled}
 use Rattle.settle.specs.declared.Outcome.the-variants as Out
 use Rattle.bounds.proofs.Ends.{Chained, start-trying, all-net, all-stands, clash-broken, found-chained}

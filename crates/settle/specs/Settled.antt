@@ -11,7 +11,7 @@ use Rattle.meaning.specs.Outcome as O
 use Rattle.meaning.specs.Outcome.{Areas, Right, number, place, written}
 use Rattle.meaning.specs.Numbers.{SOLVED, NO-TIMETABLE}
 use Rattle.plan.specs.declared.Plan.{Plan}
-use Rattle.ladder.specs.Memory.{InMemory}
+use Rattle.plan.specs.Held.{InMemory}
 use Rattle.settle.specs.declared.Outcome.{Outcome}
 use Rattle.settle.specs.declared.Outcome.the-variants.{Solved, NoTimetable, Refused}
 

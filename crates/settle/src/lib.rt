@@ -2,7 +2,7 @@
 ghost use mathlib.Core.Path.{_≡_};
 ghost use Rattle.meaning.specs.Plan as M;
 ghost use Rattle.meaning.specs.Outcome.{areas};
-ghost use Rattle.ladder.specs.Memory.{InMemory};
+ghost use Rattle.plan.specs.Held.{InMemory};
 ghost use Rattle.settle.specs.Settled.{numberOf, placeOf, Settling, Settled};
 use distances::ENTRIES;
 use plan::Plan;
@@ -54,7 +54,7 @@ pub fn settle(
     let n = h.events;
     let base = 2 * (n - 1);
     let all = base + 2 * h.count;
-    let list = bounds::list_of(h);
+    let list = bounds::list_of(h, held);
     let mut d = [0; ENTRIES];
     distances::start(&mut d, h.horizon);
     let m = bounds::try_all(list, base, all, &mut d, n);

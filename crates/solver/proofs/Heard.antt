@@ -2,7 +2,7 @@
 use mathlib.Core.Path.{_≡_, refl}
 use mathlib.Core.Bool.{true, false}
 use mathlib.Core.List.{List}
-use Prim.Native.Nat.{ℕ, zero, suc, _-_, _≤_}
+use Prim.Native.Nat.{ℕ, zero, suc, _≤_}
 use native.Mathlib.Omega.{arith}
 use Rattle.meaning.specs.Plan as M
 use Rattle.meaning.specs.Reading.{plan, refused, read}
@@ -12,11 +12,11 @@ use Rattle.meaning.specs.Outcome.{Areas, longEnough, heard}
 use Rattle.meaning.proofs.ReadGood.{read-faultless}
 use Rattle.meaning.proofs.Refusals.{refused-number}
 use Rattle.plan.specs.declared.Plan.{Plan}
+use Rattle.plan.specs.Held.{InMemory}
 use Rattle.reader.specs.declared.Answer.{Answer}
 use Rattle.reader.specs.declared.Verdict.the-variants as Said
 use Rattle.reader.specs.Heard.{planIn}
 use Rattle.reader.proofs.Answers.{read-refused, read-taken, read-holds, read-held}
-use Rattle.ladder.specs.Memory.{InMemory}
 use Rattle.settle.specs.Settled.{named, Settled}
 use Rattle.solver.specs.Solves.{ReadInto, Solves}
 use Rattle.settle.specs.declared.Outcome.{Outcome}
@@ -55,11 +55,11 @@ module _ {text held : List ℕ} {a : Answer} (r : ReadInto text held a) where
   pub read-fault : {k line : ℕ} → a .verdict ≡ Said.Refused k line → read text ≡ refused k line
   read-fault e = read-refused (r .read) (r .room) e
 
-  module _ (e : a .verdict ≡ Said.Taken) where
-    pub read-plan : read text ≡ plan (planIn (read text))
-    read-plan = read-taken (r .read) (r .room) e
+  pub read-plan : a .verdict ≡ Said.Taken → read text ≡ plan (planIn (read text))
+  read-plan e = read-taken (r .read) (r .room) e
 
-    pub read-memory : InMemory (planIn (read text)) (a .plan) held
-    read-memory =
-        let v = read-held (r .read) (r .room) in
-        record { holds = read-holds (r .read) (r .room); faultless = read-faultless text read-plan; room = omega (arith, v .long, r .room); levels = v .done }
+  -- a text that is a plan stands in memory
+  pub read-memory : read text ≡ plan (planIn (read text)) → InMemory (planIn (read text)) (a .plan) held
+  read-memory e =
+      let v = read-held (r .read) (r .room) in
+      record { holds = read-holds (r .read) (r .room); faultless = read-faultless text e; room = omega (arith, v .long, r .room); levels = v .done }

@@ -16,12 +16,13 @@ fn main() -> ExitCode {
     tally.group("records and levels at and past their limits", |group| stated_cases(group, limits::counts()));
     tally.group("lengths of the text", |group| stated_cases(group, limits::lengths()));
     tally.group("right and wrong forms", |group| stated_cases(group, limits::forms()));
+    tally.group("wishes of zeros", |group| stated_cases(group, limits::zeros()));
+    tally.group("wishes that allow one distance", |group| stated_cases(group, limits::single_distances()));
     tally.group("order of faults", |group| stated_cases(group, limits::orders()));
     tally.group("single-peaked rows of levels", level_rows);
-    tally.group("every field damaged", |group| all(group, small_texts().iter().flat_map(|t| damage::every_field(t))));
-    tally.group("every line damaged", |group| all(group, small_texts().iter().flat_map(|t| damage::every_line(t))));
-    tally
-        .group("every byte damaged", |group| all(group, damage::every_byte(b"events\t9\t80\nwish\t7\t0\t-5\t0\t15\n")));
+    tally.group("every field damaged", |group| all(group, to_damage().iter().flat_map(|t| damage::every_field(t))));
+    tally.group("every line damaged", |group| all(group, to_damage().iter().flat_map(|t| damage::every_line(t))));
+    tally.group("every byte damaged", |group| all(group, two_levels().into_iter().flat_map(damage::every_byte)));
     tally.group("random plans", |group| all(group, random_plans(4_000)));
     tally.group("random full plans", |group| all(group, random_full_plans(60)));
     tally.group("random damaged texts", |group| all(group, damaged_plans(16_000)));
@@ -44,9 +45,9 @@ fn stated_cases(group: &mut Group, cases: Vec<Stated>) {
 }
 
 fn level_rows(group: &mut Group) {
-    for (levels, peaked) in limits::level_rows() {
+    for (levels, fault) in limits::level_rows(6, 3) {
         let text = Plan::new(2, 9).with([Record::wish(0, 1, 0, levels)]).text();
-        let plain = same("the plain reader's refusal", (!peaked).then_some((6, 2)), read(&text).err());
+        let plain = same("the plain reader's refusal", fault.map(|number| (number, 2)), read(&text).err());
         group.case(&text, plain.and_then(|()| compare(&text)));
     }
 }
@@ -64,6 +65,16 @@ fn small_texts() -> Vec<Vec<u8>> {
         Plan::new(64, 100_000).with(records[2..].to_vec()).text(),
         Plan::new(5, 9).with([Record::wish(1, 0, 99_990, vec![7; 11]), Record::rule(4, 3, -1, 0)]).text(),
     ]
+}
+
+/// The small texts; and each of them with zeros for the levels of each of its wishes, so that other faults meet that one.
+fn to_damage() -> Vec<Vec<u8>> {
+    small_texts().into_iter().flat_map(|text| [damage::every_wish(&text), vec![text]].concat()).collect()
+}
+
+/// Texts of two levels. In the second, another byte for the last level makes both of them 0.
+fn two_levels() -> [&'static [u8]; 2] {
+    [b"events\t9\t80\nwish\t7\t0\t-5\t0\t15\n", b"events\t9\t80\nwish\t7\t0\t-5\t0\t1\n"]
 }
 
 fn random_plans(count: usize) -> impl Iterator<Item = Vec<u8>> {
@@ -96,6 +107,7 @@ fn areas(group: &mut Group) {
     let texts = small_texts().into_iter().chain([
         b"".to_vec(),
         b"events\t2\t9\nrule\t0\t0\t1\t2\n".to_vec(),
+        b"events\t2\t9\nwish\t0\t1\t0\t0\t0\n".to_vec(),
         vec![b'\n'; 60_001],
     ]);
     for text in texts {

@@ -1,4 +1,5 @@
 -- `bounds::list_of` meets its contract: the horizon's bounds, then those of the records, as `inOrder` has them.
+use native.Mathlib.Omega.{arith}
 use borrow.Author.Needs.{needs}
 use Rattle.bounds.proofs.Lists.{both-listed}
 use Rattle.bounds.proofs.list_of.Statement.{statement}
@@ -14,10 +15,20 @@ sub-with-records : tie.Need-sub-with-records
 sub-with-records c = search needs
 
 with-records-requires : tie.Need-with-records-requires
-with-records-requires c κs = search needs
+with-records-requires c κs =
+    let given = c .before .before .before .pre in
+    let o = given .1 in
+    let front = c .before .horizon-bounds .ensures in
+    record {
+      long = front .long;
+      plan = given .0;
+      memory = o;
+      room = omega (arith, o .holds .events, o .holds .count, o .faultless .most, o .faultless .few);
+      rest = front .rest;
+    }
 
 returns : tie.Need-returns
-returns c = λ p s w. both-listed (s .events) (s .horizon) (c .before .before .horizon-bounds .ensures) (c .with-records .ensures p s)
+returns c = λ p s. both-listed (s .holds .events) (s .holds .horizon) (c .before .before .horizon-bounds .ensures) (c .with-records .ensures p s)
 
 pub list-of-spec : {M : Type 1} → statement M
 list-of-spec =

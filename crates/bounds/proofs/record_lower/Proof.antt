@@ -1,9 +1,10 @@
--- `bounds::record_lower` meets its contract: the weight is the negative of the record's lo.
+-- `bounds::record_lower` meets its contract: the weight is the negative of the shortest distance.
 use mathlib.Core.Path.{_≡_, ap₂, _∙_}
 use Prim.Native.Nat.{ℕ}
 use lib.IntN.{ℤ, negℤ}
 use mir.Syntax.{w32}
 use mir.Val.{toZ, ofZ}
+use mir.Facts.{toZ-ofZ}
 use borrow.Author.Needs.{needs}
 use Rattle.ticks.proofs.Ticks.{back}
 use Rattle.bounds.proofs.record_lower.Statement.{statement}
@@ -22,14 +23,12 @@ to-u16-requires : tie.Need-to-u16-requires
 to-u16-requires c κs = search needs
 
 -- what `minus` returned, read back
-negative : (c : tie.After-minus) → toZ w32 (ofZ w32 (c .minus .result)) ≡ negℤ (c .before .before .args .r .lo)
-negative c =
-    let m = c .minus in
-    back w32 (m .result) (m .ok) ∙ (rw (back w32 (c .before .before .args .r .lo) (c .before .struct-told .given .1 .1 .1 .1 .0 .1)) at (m .ensures))
+negative : (c : tie.After-minus) → toZ w32 (ofZ w32 (c .minus .result)) ≡ negℤ (c .before .args .lo)
+negative c = let m = c .minus in back w32 (m .result) (m .ok) ∙ (rw (toZ-ofZ (c .before .fits .lo)) at (m .ensures))
 
 returns : tie.Need-returns
 returns c =
-    let r = c .before .before .before .args .r in
+    let r = c .before .before .args .r in
     ap₂ (λ (q : ℕ) (w : ℤ). record { start = r .b; «end» = r .a; code = q; weight = w }) (c .to-u16 .ensures) (negative (c .before))
 
 pub record-lower-spec : {M : Type 1} → statement M

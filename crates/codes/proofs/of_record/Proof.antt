@@ -35,11 +35,11 @@ code c = let n = c .to-i643 in shown (n .result) (n .ok) (n .ensures ∙ ap pos 
 
 -- ---- the ends as signed numbers
 
-hi-fits : (c : tie.After-struct-told) → SFits w32 (start (c .before .before) .args .r .hi)
-hi-fits c = record { sfits = c .struct-told .given .1 .1 .1 .1 .1 .0 .1 }
+hi-fits : (c : tie.After-struct-told) → SFits w32 (start (c .before .before) .args .ends .hi)
+hi-fits c = record { sfits = c .struct-told .given .1 .0 .1 }
 
-lo-fits : (c : tie.After-struct-told2) → SFits w32 (start (c .before .before) .args .r .lo)
-lo-fits c = record { sfits = c .struct-told2 .given .1 .1 .1 .1 .0 .1 }
+lo-fits : (c : tie.After-struct-told2) → SFits w32 (start (c .before .before) .args .ends .lo)
+lo-fits c = record { sfits = c .struct-told2 .given .0 .1 }
 
 from-u8-requires : tie.Need-from-u8-requires
 from-u8-requires c κs = search needs
@@ -68,9 +68,9 @@ returns c =
     let casts = test .before in
     let args = start casts .args in
     let weight = c .widen in
-    λ p at e.
+    λ p at e f.
     shows-same (first casts (second casts (shown (weight .result) (weight .ok) (weight .ensures ∙ toZ-ofZ (hi-fits (c .before))) (code casts))))
-    ∙ ap stepNumbers (name-upper p (args .c) (args .r) at e (test .if1 .taken))
+    ∙ ap stepNumbers (name-upper p (args .c) (args .r) at e (args .ends) f (test .if1 .taken))
 
 minus-wide-requires : tie.Need-minus-wide-requires
 minus-wide-requires c κs = search needs
@@ -82,9 +82,9 @@ returns-2 c =
     let args = start casts .args in
     let weight = c .minus-wide in
     let minus = weight .ensures ∙ ap negℤ (toZ-ofZ (lo-fits (c .before))) in
-    λ p at e.
+    λ p at e f.
     shows-same (second casts (first casts (shown (weight .result) (weight .ok) minus (code casts))))
-    ∙ ap stepNumbers (name-lower p (args .c) (args .r) at e (test .if1 .left))
+    ∙ ap stepNumbers (name-lower p (args .c) (args .r) at e (args .ends) f (test .if1 .left))
 
 pub of-record-spec : {M : Type 1} → statement M
 of-record-spec =

@@ -1,4 +1,4 @@
--- `faults::rule_fault` meets its contract: the tests in turn; a rule has no levels, which are allowed and single-peaked.
+-- `faults::rule_fault` meets its contract: the tests in turn; a rule has no levels, so that the tests of levels are met.
 use mathlib.Core.Path.{_≡_, sym, _∙_}
 use mathlib.Core.Bool.{true}
 use borrow.Author.Tests.{not-true, not-false}

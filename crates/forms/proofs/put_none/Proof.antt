@@ -14,7 +14,7 @@ use Rattle.forms.proofs.put_none.Statement.{statement}
 use Rattle.forms.proofs.put_none.Tie as tie
 
 abbrev start : tie.After-to-i64 → tie.Start
-start c = c .before .before .before
+start c = c .before .before .before .before
 
 abbrev cast : tie.After-row → tie.After-to-i64
 cast c = c .before .before .before

@@ -7,7 +7,7 @@ use borrow.Author.Needs.{needs}
 use lib.ListN.{take, drop}
 use Rattle.meaning.specs.Plan as M
 use Rattle.meaning.specs.Known.{bytes}
-use Rattle.plan.specs.Held.{Holds}
+use Rattle.plan.specs.Held.{InMemory}
 use Rattle.print.specs.Lines.{line}
 use Rattle.forms.specs.Put.{STEP-ROOM}
 use Rattle.forms.specs.Printed.{stepLines}
@@ -21,14 +21,14 @@ abbrev Passed : (out₀ out : List ℕ) (at next : ℕ) (codes : List ℕ) (p : 
 Passed out₀ out at next codes p i = Printing out₀ out at next (STEP-ROOM * i) (stepLines p codes) (stepLines p (drop i codes))
 
 abbrev Inv-loop : tie.InvT-loop
-Inv-loop out₀ at h chain steps next₀ i₀ out next i =
-    (i ≤ steps) × ((p : M.Plan) → Holds p h → Passed out₀ out at next (take steps chain) p i)
+Inv-loop out₀ at h held chain steps next₀ i₀ out next i =
+    (i ≤ steps) × ((p : M.Plan) → InMemory p h held → Passed out₀ out at next (take steps chain) p i)
 
 abbrev μ-loop : tie.MeasureT-loop
-μ-loop out₀ at h chain steps next₀ i₀ out next i = steps - i
+μ-loop out₀ at h held chain steps next₀ i₀ out next i = steps - i
 
 abbrev start : tie.At-loop Inv-loop μ-loop → tie.Start Inv-loop μ-loop
-start c = c .before .before .before
+start c = c .before .before .before .before
 
 -- what is written, for the plan that there is
 written : (c : tie.At-loop Inv-loop μ-loop) →
@@ -48,7 +48,7 @@ shared-slice-read-step-of c = search needs
 step-of-requires : tie.Need-step-of-requires Inv-loop μ-loop
 step-of-requires c κs =
     let l = c .before .before .before in
-    start l .pre .2 .1 .size
+    start l .pre .2
 
 put-step-requires : tie.Need-put-step-requires Inv-loop μ-loop
 put-step-requires c κs =
@@ -78,7 +78,7 @@ loop-less c = omega (arith, step c)
 further : (c : tie.After-slice-known2 Inv-loop μ-loop) →
     let put = c .before .before in
     let l = looped (put .before) in let s = start l in let codes = take (s .args .steps) (s .args .chain .now) in
-    (p : M.Plan) → Holds p (s .args .h) →
+    (p : M.Plan) → InMemory p (s .args .h) (s .args .held .now) →
     Passed (s .args .out .now) (put .put-step .last .0) (s .args .at) (put .put-step .result) codes p (l .loop .i + 1)
 further c p q =
     let put = c .before .before in

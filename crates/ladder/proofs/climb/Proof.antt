@@ -13,19 +13,19 @@ Inv-loop d₀ h held levels₀ count y₀ d levels y = GradesTo h held y d₀ d 
 abbrev μ-loop : tie.MeasureT-loop
 μ-loop d₀ h held levels₀ count y₀ d levels y = TOP-LEVEL + 1 - y
 
-clear-grades-requires : tie.Need-clear-grades-requires Inv-loop μ-loop
-clear-grades-requires c κs =
+begin-grades-requires : tie.Need-begin-grades-requires Inv-loop μ-loop
+begin-grades-requires c κs =
     let a = c .before .before .before .pre in
     (record { plan = a .plan; holds = a .ready .memory .holds; faultless = a .ready .memory .faultless }, a .room)
 
 loop-holds : tie.Need-loop-holds Inv-loop μ-loop
-loop-holds c = grades-none
+loop-holds c = grades-none (omega arith)
 
 climb-grade-requires : tie.Need-climb-grade-requires Inv-loop μ-loop
 climb-grade-requires c κs =
     let i = c .before .before in
     let g = i .before .before .before .before in
-    grades-ask (i .before .loop .inv) (g .before .before .before .before .pre) (g .clear-grades .ensures) (g .clear-grades .kept .1 .0)
+    grades-ask (i .before .loop .inv) (g .before .before .before .before .pre) (g .begin-grades .ensures) (g .begin-grades .kept .1 .0)
     (omega (arith, i .loop-test .taken))
 
 add-y : tie.Need-add-y Inv-loop μ-loop
@@ -45,10 +45,10 @@ same-length : tie.Need-same-length Inv-loop μ-loop
 same-length c = c .before .loop .inv .size
 
 same-length-2 : tie.Need-same-length-2 Inv-loop μ-loop
-same-length-2 c = c .before .loop .inv .long ∙ c .before .before .before .before .clear-grades .kept .1 .0
+same-length-2 c = c .before .loop .inv .long ∙ c .before .before .before .before .begin-grades .kept .1 .0
 
 returns : tie.Need-returns Inv-loop μ-loop
-returns c = grades-all (c .before .loop .inv) (omega (arith, c .loop-test .left)) (c .before .before .before .before .clear-grades .ensures)
+returns c = grades-all (c .before .loop .inv) (omega (arith, c .loop-test .left)) (c .before .before .before .before .begin-grades .ensures)
 
 pub climb-spec : {M : Type 1} → statement M
 climb-spec =
@@ -56,7 +56,7 @@ climb-spec =
     (tie.spec
     Inv-loop
     μ-loop
-    clear-grades-requires
+    begin-grades-requires
     loop-holds
     climb-grade-requires
     add-y

@@ -46,7 +46,7 @@ add-wish-fault : tie.Need-add-wish-fault
 add-wish-fault c = omega (arith, room (start c) .together)
 
 wish-fault-requires : tie.Need-wish-fault-requires
-wish-fault-requires c κs = let s = start c in (s .pre .1 .events, omega arith, omega (arith, room s .together, s .pre .3))
+wish-fault-requires c κs = let s = start c in (s .pre .1 .events, omega (arith, s .pre .2 .numbers), omega (arith, room s .together, s .pre .3))
 
 returns : tie.Need-returns
 unfolding wishEffect

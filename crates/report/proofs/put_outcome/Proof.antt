@@ -12,6 +12,7 @@ use Rattle.reader.specs.Heard.{planIn}
 use Rattle.reader.proofs.Answers.{read-holds}
 use Rattle.settle.specs.declared.Outcome.the-variants as Out
 use Rattle.solver.specs.Solves.{ReadInto}
+use Rattle.solver.proofs.Heard.{read-memory}
 use Rattle.forms.specs.Timed.{Timed}
 use Rattle.report.proofs.Outcomes.{LeftSolved, LeftNone, LeftRefused, left-solved, left-none, left-refused, told}
 use Rattle.report.proofs.put_outcome.Statement.{statement}
@@ -107,7 +108,7 @@ put-none-requires c κs =
     let steps = c .before .before .before in
     let o = steps .before .before in
     let s = none-left (found o) (known (begun o)) (steps .steps .given .1) in
-    (begun o .pre .0, s .long, s .few, (_, holds (begun o) (known (begun o))))
+    (begun o .pre .0, s .long, s .few, (_, read-memory (known (begun o)) (s .planned)))
 
 enum-known-number : tie.Need-enum-known-number
 enum-known-number c = search needs
@@ -137,7 +138,9 @@ returns-2 c =
     let put = c .before .before in
     let steps = put .before .before .before .before in
     let o = steps .before .before in
-    λ text i. told _ (none-left (found o) i (steps .steps .given .1) .right) (put .put-none .ensures _ (holds (begun o) i))
+    λ text i.
+    let s = none-left (found o) i (steps .steps .given .1) in
+    told _ (s .right) (put .put-none .ensures _ (read-memory i (s .planned)))
 
 same-length-3 : tie.Need-same-length-3
 same-length-3 c = search needs

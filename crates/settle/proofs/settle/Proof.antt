@@ -3,7 +3,7 @@
 use borrow.Author.Needs.{needs}
 use Rattle.meaning.specs.Plan as M
 use Rattle.bounds.specs.Listed.{Listed}
-use Rattle.ladder.specs.Memory.{InMemory}
+use Rattle.plan.specs.Held.{InMemory}
 use Rattle.ladder.specs.Climbed.{Ready}
 use Rattle.settle.proofs.Settles.{settle-trying, settle-broken, settle-ready, settle-chained, chained-settled, climbed-timing, climbed-settled}
 use Rattle.settle.proofs.settle.Statement.{statement}
@@ -42,7 +42,7 @@ Memory c p = let args = start (listed c) .args in InMemory p (args .h) (args .he
 
 -- the list has the bounds of the plan
 list-holds : (c : tie.After-start) (p : M.Plan) → Memory c p → Listed p (listed c .list-of .result)
-list-holds c p m = listed c .list-of .ensures p (m .holds) (m .faultless)
+list-holds c p m = listed c .list-of .ensures p m
 
 -- all bounds were added
 ready : (c : tie.Else1) (p : M.Plan) → Memory (begun (all-tried c)) p →

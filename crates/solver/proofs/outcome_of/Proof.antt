@@ -27,7 +27,7 @@ settle-requires c κs =
     let long = long-areas (areas (args .times .now) (args .levels .now) (args .chain .now)) (s .pre .1) in
     record {
       plan = planIn (read text);
-      memory = read-memory (s .pre .0 .1) (told c .enum-told .given .1);
+      memory = let r = s .pre .0 .1 in read-memory r (read-plan r (told c .enum-told .given .1));
       times-long = long .for-times;
       levels-long = long .for-levels;
       chain-long = long .for-chain;
@@ -50,10 +50,9 @@ returns c = λ text r.
     let at-told = told (at-settle .before) in
     let s = start (at-told .before) in
     let args = s .args in
-    let e = at-told .enum-told .given .1 in
+    let e = read-plan r (at-told .enum-told .given .1) in
     settled-solves text (areas (args .times .now) (args .levels .now) (args .chain .now)) (s .pre .1)
-    {after = areas (last .0) (last .1 .0) (last .1 .1 .0)} (read-plan r e)
-    (at-settle .settle .ensures (planIn (read text)) (read-memory r e))
+    {after = areas (last .0) (last .1 .0) (last .1 .1 .0)} e (at-settle .settle .ensures (planIn (read text)) (read-memory r e))
 
 -- ---- a refusal
 

@@ -18,7 +18,7 @@ use outside::outcome::Outcome;
 use outside::plan::Plan;
 use outside::reader::{read, Refusal};
 use outside::tally::{same, Group, Tally};
-use outside::{damage, exhaustive, known};
+use outside::{damage, enumerate, exhaustive, known};
 use program::Program;
 use std::process::ExitCode;
 
@@ -33,6 +33,7 @@ fn main() -> ExitCode {
     tally.group("order of faults", |group| stated_cases(group, limits::orders()));
     tally.group("areas too short, exact and longer", areas);
     tally.group("small plans by exhaustive search", |group| small_plans(group, 6_000));
+    tally.group("all short rows of levels, by exhaustive search", enumerated_plans);
     tally.group("random plans", |group| random_plans(group, 6_000));
     tally.group("random full plans", |group| full_plans(group, 150));
     tally.group("paths through all events", paths);
@@ -58,6 +59,7 @@ fn the_example(tally: &mut Tally) {
         Err(why) => return tally.group("the C example", |group| group.case(b"", Err(why))),
     };
     tally.group("the C example", |group| example::plans(group, &program));
+    tally.group("the C example's printed forms", |group| program::printed_forms(group, &program));
     tally.group("the C example's input", |group| input::inputs(group, &program));
     tally.group("the C example's output", |group| output::outputs(group, &program));
 }
@@ -69,7 +71,8 @@ fn known_plans(group: &mut Group, cases: Vec<(Vec<u8>, Outcome)>) {
 }
 
 fn limits_of_section_1() -> Vec<Stated> {
-    [limits::numbers(), limits::counts(), limits::lengths(), limits::forms()].concat()
+    let zeros = [limits::zeros(), limits::single_distances()].concat();
+    [limits::numbers(), limits::counts(), limits::lengths(), limits::forms(), zeros].concat()
 }
 
 fn stated_cases(group: &mut Group, cases: Vec<Stated>) {
@@ -118,6 +121,7 @@ fn full_plan_with(moved: usize) -> Vec<u8> {
         wishes: 95,
         levels: 60,
         heights: &[15],
+        bordered: 50,
         slack: 500,
         moved,
         moved_by: 1_000,
@@ -137,10 +141,20 @@ fn small_plans(group: &mut Group, count: usize) {
     let mut chance = Chance::new(11);
     for _ in 0..count {
         let shape = generate::small_shape(&mut chance);
-        let plan = generate::plan(&mut chance, &shape);
-        let text = plan.text();
-        group.case(&text, compare(&text).and_then(|given| by_exhaustive_search(&plan, &given).map(|()| given.kind())));
+        exhaustive_case(group, &generate::plan(&mut chance, &shape));
     }
+}
+
+fn enumerated_plans(group: &mut Group) {
+    enumerate::two_wishes(|plan| exhaustive_case(group, &plan));
+    enumerate::three_wishes(|plan| exhaustive_case(group, &plan));
+    enumerate::rounds(|plan| exhaustive_case(group, &plan));
+    enumerate::wishes_and_rules(|plan| exhaustive_case(group, &plan));
+}
+
+fn exhaustive_case(group: &mut Group, plan: &Plan) {
+    let text = plan.text();
+    group.case(&text, compare(&text).and_then(|given| by_exhaustive_search(plan, &given).map(|()| given.kind())));
 }
 
 fn by_exhaustive_search(plan: &Plan, given: &Outcome) -> Result<(), String> {

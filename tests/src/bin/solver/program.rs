@@ -7,7 +7,7 @@ use outside::chance::Chance;
 use outside::outcome::{printed, printed_refusal, Outcome};
 use outside::reader::read;
 use outside::tally::{same, Group};
-use outside::{damage, generate, known, second};
+use outside::{damage, generate, known, limits, second};
 use std::path::{Path, PathBuf};
 use std::process::{Command, Stdio};
 
@@ -105,10 +105,13 @@ fn codes(out: &str) -> Result<Vec<u16>, String> {
 /// Texts of all kinds, given at once.
 pub fn printed_forms(group: &mut Group, program: &Program) {
     let run = |text: &[u8]| run_on(program.command(), text);
-    let second = known::cases().swap_remove(1).0;
-    group.case(&second, run(&second).and_then(|given| program.printed(known::SECOND_PRINTED, &given)));
+    for (case, printed) in [(1, known::SECOND_PRINTED), (2, known::THIRD_PRINTED)] {
+        let text = known::cases().swap_remove(case).0;
+        group.case(&text, run(&text).and_then(|given| program.printed(printed, &given)));
+    }
     let known = known::cases().into_iter().chain(known::many_rules()).map(|(text, _)| text);
-    for text in known.chain(random_texts(400)).chain([full_plan()]) {
+    let single = limits::single_distances().into_iter().map(|(text, _)| text);
+    for text in known.chain(single).chain(random_texts(400)).chain([full_plan()]) {
         group.case(&text, run(&text).and_then(|given| program.outcome(&text, &given)));
     }
 }

@@ -1,4 +1,4 @@
--- `ladder::distance_of` meets its contract: an end and as many more as a wish has levels fit.
+-- `cut::distance_of` meets its contract: an end and as many more as a wish has levels fit.
 use mathlib.Core.Path.{_≡_, _∙_}
 use lib.IntN.{pos}
 use mir.Syntax.{w32}
@@ -6,9 +6,9 @@ use mir.Val.{toZ, ofZ}
 use mir.Facts.{toZ-ofZ}
 use borrow.Author.Needs.{needs}
 use Rattle.ticks.proofs.Ticks.{back}
-use Rattle.ladder.proofs.Asks.{reach-fits}
-use Rattle.ladder.proofs.distance_of.Statement.{statement}
-use Rattle.ladder.proofs.distance_of.Tie as tie
+use Rattle.cut.proofs.Cuts.{reach-fits}
+use Rattle.cut.proofs.distance_of.Statement.{statement}
+use Rattle.cut.proofs.distance_of.Tie as tie
 
 to-i32-requires : tie.Need-to-i32-requires
 to-i32-requires c κs = search needs

@@ -1,19 +1,19 @@
--- `ladder::clear_grades` meets its contract: the wishes so far are at grade 0, and counted.
+-- `ladder::begin_grades` meets its contract: the wishes so far are at the least level, and counted.
 use Prim.Native.Nat.{_-_, _<_}
 use native.Mathlib.Omega.{arith}
 use Rattle.meaning.specs.Plan.{MOST-RECORDS}
-use Rattle.ladder.proofs.Grades.{ClearedTo, cleared-none, cleared-room, cleared-next, cleared-all}
-use Rattle.ladder.proofs.clear_grades.Statement.{statement}
-use Rattle.ladder.proofs.clear_grades.Tie as tie
+use Rattle.ladder.proofs.Grades.{BegunTo, begun-none, begun-room, begun-next, begun-all}
+use Rattle.ladder.proofs.begin_grades.Statement.{statement}
+use Rattle.ladder.proofs.begin_grades.Tie as tie
 
 abbrev Inv-loop : tie.InvT-loop
-Inv-loop levels₀ h w₀ k₀ k-end levels w k = ClearedTo h k w levels₀ levels
+Inv-loop levels₀ h w₀ k₀ k-end levels w k = BegunTo h k w levels₀ levels
 
 abbrev μ-loop : tie.MeasureT-loop
 μ-loop levels₀ h w₀ k₀ k-end levels w k = k-end - k
 
 loop-holds : tie.Need-loop-holds Inv-loop μ-loop
-loop-holds c = cleared-none
+loop-holds c = begun-none
 
 -- a record of the plan is one of the array
 few : (c : tie.In-loop Inv-loop μ-loop) → c .before .loop .k < MOST-RECORDS
@@ -27,15 +27,15 @@ mul-r c = let l = few c in omega arith
 element-copy-out-r : tie.Need-element-copy-out-r Inv-loop μ-loop
 element-copy-out-r c = few c
 
-clear-record-requires : tie.Need-clear-record-requires Inv-loop μ-loop
-clear-record-requires c κs = λ z.
+begin-record-requires : tie.Need-begin-record-requires Inv-loop μ-loop
+begin-record-requires c κs = λ z.
     let i = c .before .before in
     let s = i .before .before .before in
     let u = i .before .loop .inv in
-    omega (arith, cleared-room (s .pre .0) (s .pre .1) u (i .loop-test .taken) z, u .swept .long)
+    omega (arith, begun-room (s .pre .0) (s .pre .1) u (i .loop-test .taken) z, u .swept .long)
 
--- the turn of the loop, from where the record is cleared
-abbrev turn : tie.After-clear-record Inv-loop μ-loop → tie.In-loop Inv-loop μ-loop
+-- the turn of the loop, from where the record is begun
+abbrev turn : tie.After-begin-record Inv-loop μ-loop → tie.In-loop Inv-loop μ-loop
 turn c = c .before .before .before
 
 add-k : tie.Need-add-k Inv-loop μ-loop
@@ -48,16 +48,16 @@ loop-again : tie.Need-loop-again Inv-loop μ-loop
 loop-again c =
     let i = turn (c .before .before) in
     let s = i .before .before .before in
-    cleared-next (s .pre .0) (s .pre .1) (i .before .loop .inv) (i .loop-test .taken) (c .before .before .clear-record .ensures)
+    begun-next (s .pre .0) (s .pre .1) (i .before .loop .inv) (i .loop-test .taken) (c .before .before .begin-record .ensures)
 
 same-length : tie.Need-same-length Inv-loop μ-loop
 same-length c = c .before .loop .inv .swept .long
 
 returns : tie.Need-returns Inv-loop μ-loop
-returns c = cleared-all (c .before .before .before .pre .1) (c .before .loop .inv) (c .loop-test .left)
+returns c = begun-all (c .before .before .before .pre .1) (c .before .loop .inv) (c .loop-test .left)
 
-pub clear-grades-spec : {M : Type 1} → statement M
-clear-grades-spec =
+pub begin-grades-spec : {M : Type 1} → statement M
+begin-grades-spec =
     tie.close
     (tie.spec
     Inv-loop
@@ -65,7 +65,7 @@ clear-grades-spec =
     loop-holds
     mul-r
     element-copy-out-r
-    clear-record-requires
+    begin-record-requires
     add-k
     loop-less
     loop-again

@@ -1,10 +1,10 @@
--- `ladder::clear_record` meets its contract: a rule changes nothing, a wish is one more.
+-- `ladder::begin_record` meets its contract: a rule changes nothing, a wish is one more.
 use mathlib.Core.Path.{refl}
 use Prim.Native.Nat.{_<_}
 use native.Mathlib.Omega.{arith}
 use borrow.Author.Needs.{needs}
-use Rattle.ladder.proofs.clear_record.Statement.{statement}
-use Rattle.ladder.proofs.clear_record.Tie as tie
+use Rattle.ladder.proofs.begin_record.Statement.{statement}
+use Rattle.ladder.proofs.begin_record.Tie as tie
 
 returns : tie.Need-returns
 returns c = record { rule = λ _. (refl, refl); wish = λ z. absurd (omega (arith, c .if1 .taken)) }
@@ -24,6 +24,6 @@ same-length c = search needs
 returns-2 : tie.Need-returns-2
 returns-2 c = record { rule = λ z. absurd (omega (arith, wish c)); wish = λ _. (refl, refl) }
 
-pub clear-record-spec : {M : Type 1} → statement M
-clear-record-spec =
+pub begin-record-spec : {M : Type 1} → statement M
+begin-record-spec =
     tie.close (tie.spec returns slice-write-levels add-result same-length returns-2)

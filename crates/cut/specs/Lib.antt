@@ -1,0 +1,2 @@
+-- What the contracts of `cut` cite.
+pub mod Cut
