@@ -1,28 +1,27 @@
 -- The cut of a row: its distances fit a number, a row of a plan in memory can be cut, and the distances that it allows are those of its record.
-use mathlib.Core.Path.{_≡_, ap, _∙_}
-use mathlib.Core.Bool.{false}
+use mathlib.Core.Path.{_≡_, refl, ap, _∙_}
+use mathlib.Core.Bool.{Bool, true, false, cond}
 use mathlib.Core.List.{List}
 use Prim.Native.Nat.{ℕ, _+_, _-_, _≤_, _<_, zero-le}
 use native.Mathlib.Omega.{arith}
 use native.Mathlib.Decide.{decLt}
-use borrow.Author.Tests.{ne-eqb}
 use lib.Dec.{eqb}
-use lib.ListN.{length, List·getD-eq-default}
+use lib.ListN.{length}
 use lib.Seq.{slice, length-slice}
 use lib.IntN.{ℤ, pos, negℤ, _+ℤ_, _-ℤ_}
 use mir.Syntax.{w32}
 use mir.Val.{SFits}
 use Rattle.ticks.proofs.Ticks.{ticks, sum}
 use Rattle.meaning.specs.Plan as M
-use Rattle.meaning.specs.Plan.{recordAt, nothing, Within, MOST-END, MOST-LEVELS}
+use Rattle.meaning.specs.Plan.{recordAt, Within, MOST-END, MOST-LEVELS, LEAST-LEVEL}
 use Rattle.meaning.specs.Run.{runFirst, runPast}
 use Rattle.meaning.specs.Faultless.{Levelled, GoodRecord}
 use Rattle.meaning.proofs.Runs.{first-most, past-most}
 use Rattle.plan.specs.declared.Record.{Record}
 use Rattle.plan.specs.declared.Plan.{Plan}
 use Rattle.plan.specs.Held.{levelsIn, levelsAt, InMemory}
-use Rattle.plan.proofs.Use.{rowAt, RowHeld, row-blank, row-held}
-use Rattle.cut.specs.Cut.{Reach, Cutting, allowed, endsOf}
+use Rattle.plan.proofs.Use.{rowAt, RowHeld, recordOf, row-blank, row-held, record-at}
+use Rattle.cut.specs.Cut.{Reach, Cutting, allowed, runOf, endsOf}
 
 -- ---- a distance within a wish's levels fits, and so does the one before it
 
@@ -67,13 +66,14 @@ good-cutting {x = x} m g r = record { reach = record { ends = ends; few = rw cou
     few (M.rule a b lo hi) q = zero-le
     few (M.wish a b lo ls) q = q .few
 
-good-ends-of : {x : Record} {held : List ℕ} (m : M.Record) → Levelled m → RowHeld x m held → endsOf x held ≡ allowed m
-good-ends-of {held = held} (M.rule a b lo hi) g r = ap (λ (y : Record). endsOf y held) (r .row)
-good-ends-of {x} {held} (M.wish a b lo ls) g r =
-    let count : x .count ≡ length ls = ap (λ (y : Record). y .count) (r .row) in
-    let low : x .lo ≡ lo = ap (λ (y : Record). y .lo) (r .row) in
-    let some : eqb (x .count) 0 ≡ false = ne-eqb (x .count) 0 (λ z. omega (arith, count, g .some)) in
-    rw (some, low, r .levels)
+-- what a row allows is what its record, made again, allows
+ends-again : (x : Record) (held : List ℕ) → endsOf x held ≡ allowed (recordOf held x)
+ends-again x held = go (eqb (x .count) 0)
+  where
+    go : (b : Bool) → cond b (record { lo = x .lo; hi = x .hi }) (runOf x held LEAST-LEVEL)
+        ≡ allowed (cond b (M.rule (x .a) (x .b) (x .lo) (x .hi)) (M.wish (x .a) (x .b) (x .lo) (levelsAt x held)))
+    go true = refl
+    go false = refl
 
 module _ {p : M.Plan} {h : Plan} {held : List ℕ} (o : InMemory p h held) (k : ℕ) where
   -- each row can be cut, also past the last record
@@ -87,8 +87,4 @@ module _ {p : M.Plan} {h : Plan} {held : List ℕ} (o : InMemory p h held) (k : 
 
   -- and what it allows is what its record allows
   pub ends-are : endsOf (rowAt h k) held ≡ allowed (recordAt p k)
-  ends-are = go (decLt k (length (p .records)))
-    where
-      go : Dec (k < length (p .records)) → endsOf (rowAt h k) held ≡ allowed (recordAt p k)
-      go (yes l) = good-ends-of (recordAt p k) (o .faultless .each k l .levelled) (row-held o k l)
-      go (no n) = rw (row-blank o k (omega arith), List·getD-eq-default (p .records) nothing {n = k} (omega arith))
+  ends-are = ends-again (rowAt h k) held ∙ ap allowed (record-at o k)

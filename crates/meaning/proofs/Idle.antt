@@ -43,21 +43,21 @@ refuses-no-plan c p h k = go (result c p h k)
     go (with-times ts ls x n l w) = (omega arith, λ t m. n)
     go (with-chain cs x n l w) = (omega arith, λ t m. absurd (chain-excludes x m))
 
--- what stands past n rows stands in the table
-past : (n : ℕ) (ks : List Known) {k : Known} → List·Memᴰ k (drop n ks) → List·Memᴰ k ks
-past zero ks m = m
-past (suc n) [] m = absurd (List·Memᴰ·not-nil m)
-past (suc n) (j ∷ ks) m = List·Memᴰ·tail (past n ks m)
+-- a row behind the first n is a row
+row-behind : (n : ℕ) (ks : List Known) {k : Known} → List·Memᴰ k (drop n ks) → List·Memᴰ k ks
+row-behind zero ks m = m
+row-behind (suc n) [] m = absurd (List·Memᴰ·not-nil m)
+row-behind (suc n) (j ∷ ks) m = List·Memᴰ·tail (row-behind n ks m)
 
 -- cases 5 and 6 have other times
 pub case-5 : List·Memᴰ (row CASE-5 (pos 0 ∷ pos 1 ∷ []) (1 ∷ 1 ∷ [])) table
-case-5 = past 6 table (List·Memᴰ·head refl)
+case-5 = row-behind 6 table (List·Memᴰ·head refl)
 
 pub case-5-raised : List·Memᴰ (row CASE-5-RAISED (pos 0 ∷ pos 1 ∷ []) (2 ∷ 2 ∷ [])) table
-case-5-raised = past 7 table (List·Memᴰ·head refl)
+case-5-raised = row-behind 7 table (List·Memᴰ·head refl)
 
 pub case-6 : List·Memᴰ (row CASE-6 (pos 0 ∷ pos 0 ∷ pos 3 ∷ []) (1 ∷ 3 ∷ [])) table
-case-6 = past 8 table (List·Memᴰ·head refl)
+case-6 = row-behind 8 table (List·Memᴰ·head refl)
 
 pub no-fixed-reply : NoFixedReply
 no-fixed-reply before after l f = second-time (before .times) (after .times) (written-times CASE-5 _ _ case-5) (written-times CASE-6 _ _ case-6)

@@ -12,7 +12,7 @@ use Rattle.meaning.specs.Reading.{Reading, plan, refused, read, split, d
 use Rattle.meaning.specs.Outcome.{Outcome, solved, none, refusal, number, place, Right, Areas, longEnough, written, Promise}
 use Rattle.meaning.specs.Known.{Known, bytes, table}
 use Rattle.meaning.specs.Faultless.{WithoutFault}
-use Rattle.meaning.proofs.All.{all-each}
+use Rattle.meaning.proofs.All.{all, all-each}
 use Rattle.meaning.proofs.ReadGood.{read-faultless}
 use Rattle.meaning.proofs.EveryRow.{solvedTest, solved-right}
 use Rattle.meaning.proofs.ChainTest.{chainTest, chain-right}
@@ -52,6 +52,10 @@ row-right k h =
     let r : Right (read text) (k .outcome) = is-right (read text) (k .outcome) (λ p e. read-faultless text e) h in
     record { right = r; promise = promised text (k .outcome) r }
 
-pub known-right : (k : Known) → List·Memᴰ k table → RightOutcome k
+-- every row passes
+table-passes : T (all rowTest table)
 unfolding read split digitsOf numberOf lineForm lineStep peaked
-known-right k m = row-right k (all-each rowTest table tt k m)
+table-passes = tt
+
+pub known-right : (k : Known) → List·Memᴰ k table → RightOutcome k
+known-right k m = row-right k (all-each rowTest table table-passes k m)

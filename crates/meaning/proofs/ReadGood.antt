@@ -21,7 +21,8 @@ use Rattle.meaning.specs.Reading.{between, allLevels, inRange, sameEvent
 use Rattle.meaning.specs.Reading.{Step, taken, fault, unless, firstLine, laterLine, lineStep, plan, refused, empty, afterStep, readPieces, read}
 use Rattle.meaning.specs.Faultless.{GoodRecord, WithoutFault}
 use Rattle.meaning.proofs.Peaks.{peaked-sound}
-use Rattle.meaning.proofs.Tests.{both, event-below, count-from, count-to, levels-mild, some-allowed, apart, in-range}
+use Rattle.meaning.proofs.Tests.{both, event-below, count-from, count-to, levels-mild, apart, in-range}
+use Rattle.meaning.proofs.Zeros.{some-allowed}
 use Rattle.meaning.specs.Numbers.{WRONG-FORM, TOO-MANY, OUT-OF-RANGE, SAME-EVENT, NOT-PEAKED, NOTHING-ALLOWED}
 
 -- ---- a form that a line has: a wish has a level

@@ -16,62 +16,7 @@ use Rattle.meaning.specs.Plan.{levelAt, Within}
 use Rattle.meaning.specs.Ladder.{lv}
 use Rattle.meaning.specs.Run.{runFirst, pastOf, runPast}
 
--- ---- every grade has a run in every list
-
--- the first place at level y or more, and one past the last (where there is none: the length, and 0)
-pub record Run (y : ℕ) (ls : List ℕ) (first past : ℕ) : Type 0 where
-  pub within : past ≤ length ls
-  pub before : (j : ℕ) → j < first → lv ls j < y
-  pub starts : first < length ls → y ≤ lv ls first
-  pub after : (j : ℕ) → past ≤ j → lv ls j < y
-  pub ends : 0 < past → y ≤ lv ls (past - 1)
-
-record First (y : ℕ) (ls : List ℕ) (first : ℕ) : Type 0 where
-  before : (j : ℕ) → j < first → lv ls j < y
-  starts : first < length ls → y ≤ lv ls first
-
-record Past (y : ℕ) (ls : List ℕ) (past : ℕ) : Type 0 where
-  within : past ≤ length ls
-  after : (j : ℕ) → past ≤ j → lv ls j < y
-  ends : 0 < past → y ≤ lv ls (past - 1)
-
-first-is : (y : ℕ) (ls : List ℕ) → First y ls (runFirst y ls)
-first-is y [] = record { before = λ j h. absurd (not-suc-le-zero h); starts = λ h. absurd (not-suc-le-zero h) }
-first-is y (x ∷ xs) = go (leb y x) refl (runFirst y xs) (first-is y xs)
-  where
-    sooner : {f : ℕ} → x < y → First y xs f → (j : ℕ) → j < suc f → lv (x ∷ xs) j < y
-    sooner low r zero h = low
-    sooner low r (suc j) h = r .before j (le-of-suc-le-suc h)
-
-    go : (b : Bool) → leb y x ≡ b → (f : ℕ) → First y xs f → First y (x ∷ xs) (cond b 0 (suc f))
-    go true d f r = record { before = λ j h. absurd (not-suc-le-zero h); starts = λ h. leb-true y x d }
-    go false d f r = record { before = sooner (leb-false y x d) r; starts = λ h. r .starts (le-of-suc-le-suc h) }
-
-past-is : (y : ℕ) → 1 ≤ y → (ls : List ℕ) → Past y ls (runPast y ls)
-past-is y lo [] = record { within = zero-le; after = λ j h. lo; ends = λ h. absurd (not-suc-le-zero h) }
-past-is y lo (x ∷ xs) = go (leb y x) refl (runPast y xs) (past-is y lo xs)
-  where
-    later : {e : ℕ} → Past y xs e → (j : ℕ) → suc e ≤ j → lv (x ∷ xs) j < y
-    later r zero h = absurd (not-suc-le-zero h)
-    later r (suc j) h = r .after j (le-of-suc-le-suc h)
-
-    never : x < y → Past y xs 0 → (j : ℕ) → lv (x ∷ xs) j < y
-    never low r zero = low
-    never low r (suc j) = r .after j zero-le
-
-    last : (e : ℕ) → y ≤ lv xs (suc e - 1) → y ≤ lv (x ∷ xs) (suc (suc e) - 1)
-    last e h = subst (λ (n : ℕ). y ≤ lv (x ∷ xs) n) {x = suc (suc e - 1)} {y = suc (suc e) - 1} (omega arith) h
-
-    go : (b : Bool) → leb y x ≡ b → (e : ℕ) → Past y xs e → Past y (x ∷ xs) (pastOf b e)
-    go true d zero r = record { within = suc-le-suc zero-le; after = later r; ends = λ h. leb-true y x d }
-    go false d zero r = record { within = zero-le; after = λ j h. never (leb-false y x d) r j; ends = λ h. absurd (not-suc-le-zero h) }
-    go b d (suc e) r = record { within = suc-le-suc (r .within); after = later r; ends = λ h. last e (r .ends (suc-le-suc zero-le)) }
-
-pub run-is : (y : ℕ) → 1 ≤ y → (ls : List ℕ) → Run y ls (runFirst y ls) (runPast y ls)
-run-is y lo ls =
-    let f = first-is y ls in
-    let e = past-is y lo ls in
-    record { within = e .within; before = f .before; starts = f .starts; after = e .after; ends = e .ends }
+-- ---- both ends are within the list
 
 pub first-most : (y : ℕ) (ls : List ℕ) → runFirst y ls ≤ length ls
 first-most y [] = zero-le
@@ -89,6 +34,62 @@ past-most y (x ∷ xs) = go (leb y x) (runPast y xs) (past-most y xs)
     go true zero h = suc-le-suc zero-le
     go false zero h = zero-le
     go b (suc e) h = suc-le-suc h
+
+-- ---- every grade has a run in every list
+
+-- the first place at level y or more, and one past the last (where there is none: the length, and 0)
+pub record Run (y : ℕ) (ls : List ℕ) (first past : ℕ) : Type 0 where
+  pub within : past ≤ length ls
+  pub before : (j : ℕ) → j < first → lv ls j < y
+  pub starts : first < length ls → y ≤ lv ls first
+  pub after : (j : ℕ) → past ≤ j → lv ls j < y
+  pub ends : 0 < past → y ≤ lv ls (past - 1)
+
+record First (y : ℕ) (ls : List ℕ) (first : ℕ) : Type 0 where
+  before : (j : ℕ) → j < first → lv ls j < y
+  starts : first < length ls → y ≤ lv ls first
+
+record Past (y : ℕ) (ls : List ℕ) (past : ℕ) : Type 0 where
+  after : (j : ℕ) → past ≤ j → lv ls j < y
+  ends : 0 < past → y ≤ lv ls (past - 1)
+
+first-is : (y : ℕ) (ls : List ℕ) → First y ls (runFirst y ls)
+first-is y [] = record { before = λ j h. absurd (not-suc-le-zero h); starts = λ h. absurd (not-suc-le-zero h) }
+first-is y (x ∷ xs) = go (leb y x) refl (runFirst y xs) (first-is y xs)
+  where
+    sooner : {f : ℕ} → x < y → First y xs f → (j : ℕ) → j < suc f → lv (x ∷ xs) j < y
+    sooner low r zero h = low
+    sooner low r (suc j) h = r .before j (le-of-suc-le-suc h)
+
+    go : (b : Bool) → leb y x ≡ b → (f : ℕ) → First y xs f → First y (x ∷ xs) (cond b 0 (suc f))
+    go true d f r = record { before = λ j h. absurd (not-suc-le-zero h); starts = λ h. leb-true y x d }
+    go false d f r = record { before = sooner (leb-false y x d) r; starts = λ h. r .starts (le-of-suc-le-suc h) }
+
+past-is : (y : ℕ) → 1 ≤ y → (ls : List ℕ) → Past y ls (runPast y ls)
+past-is y lo [] = record { after = λ j h. lo; ends = λ h. absurd (not-suc-le-zero h) }
+past-is y lo (x ∷ xs) = go (leb y x) refl (runPast y xs) (past-is y lo xs)
+  where
+    later : {e : ℕ} → Past y xs e → (j : ℕ) → suc e ≤ j → lv (x ∷ xs) j < y
+    later r zero h = absurd (not-suc-le-zero h)
+    later r (suc j) h = r .after j (le-of-suc-le-suc h)
+
+    never : x < y → Past y xs 0 → (j : ℕ) → lv (x ∷ xs) j < y
+    never low r zero = low
+    never low r (suc j) = r .after j zero-le
+
+    last : (e : ℕ) → y ≤ lv xs (suc e - 1) → y ≤ lv (x ∷ xs) (suc (suc e) - 1)
+    last e h = subst (λ (n : ℕ). y ≤ lv (x ∷ xs) n) {x = suc (suc e - 1)} {y = suc (suc e) - 1} (omega arith) h
+
+    go : (b : Bool) → leb y x ≡ b → (e : ℕ) → Past y xs e → Past y (x ∷ xs) (pastOf b e)
+    go true d zero r = record { after = later r; ends = λ h. leb-true y x d }
+    go false d zero r = record { after = λ j h. never (leb-false y x d) r j; ends = λ h. absurd (not-suc-le-zero h) }
+    go b d (suc e) r = record { after = later r; ends = λ h. last e (r .ends (suc-le-suc zero-le)) }
+
+pub run-is : (y : ℕ) → 1 ≤ y → (ls : List ℕ) → Run y ls (runFirst y ls) (runPast y ls)
+run-is y lo ls =
+    let f = first-is y ls in
+    let e = past-is y lo ls in
+    record { within = past-most y ls; before = f .before; starts = f .starts; after = e .after; ends = e .ends }
 
 -- ---- what has the grade lies in the run
 

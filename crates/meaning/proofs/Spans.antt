@@ -1,5 +1,5 @@
--- What T-04 left as it was: before it a timetable kept the spans of the wishes. Where a plan has a timetable in the sense of T-04, the best ones in the two
--- senses are the same. By the first grade: what is not beaten by levels of 1 or more has such levels itself.
+-- What T-04 left as it was: where a plan has a timetable in the sense of T-04, the best ones in that sense and in the one before it are the same. By the first
+-- grade: what is not beaten by levels of 1 or more has such levels itself.
 use mathlib.Core.Path.{_≡_, refl, sym, subst, _∙_}
 use mathlib.Core.Logic.{_↔_}
 use mathlib.Core.List.{List, [], _∷_}
@@ -10,9 +10,9 @@ use native.Mathlib.Omega.{arith}
 use borrow.Author.Tests.{le-leb, lt-leb}
 use lib.Dec.{T}
 use lib.ListN.{length}
-use lib.IntN.{pos, _-ℤ_}
+use lib.IntN.{_-ℤ_}
 use Rattle.meaning.specs.Plan.{Record, rule, wish, Plan, recordAt, start, end, low, high, LEAST-LEVEL}
-use Rattle.meaning.specs.Plan.{Times, Within, Allows, Timetable, levels, wishes}
+use Rattle.meaning.specs.Plan.{Times, Within, Allows, Timetable, Spanned, levels, wishes}
 use Rattle.meaning.specs.Ladder.{questions, lv, reply, replies, better, Best}
 use Rattle.meaning.specs.Outcome.{BestTimes}
 use Rattle.meaning.specs.Climb.{number}
@@ -21,12 +21,6 @@ use Rattle.meaning.proofs.Questions.{ask, Low, Place, place}
 use Rattle.meaning.proofs.Levels.{levels-allowed}
 use Rattle.meaning.proofs.Wishes.{wish-level, wish-number}
 use Rattle.meaning.proofs.Bounds.{allowed-spanned}
-
--- keeps the horizon, all rules and all wish spans
-pub record Spanned (p : Plan) (t : Times) : Type 0 where
-  pub origin : t 0 ≡ pos 0
-  pub within : (e : ℕ) → e < p .events → Within (pos 0) (t e) (pos (p .horizon))
-  pub keeps : (k : ℕ) → k < length (p .records) → let r = recordAt p k in Within (low r) (t (end r) -ℤ t (start r)) (high r)
 
 pub timetable-spanned : {p : Plan} {t : Times} → Timetable p t → Spanned p t
 timetable-spanned {p} {t} h = record { origin = h .origin; within = h .within; keeps = λ k l. allowed-spanned (recordAt p k) t (h .keeps k l) }

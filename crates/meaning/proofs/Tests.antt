@@ -2,7 +2,7 @@
 use mathlib.Core.Path.{_≡_, ap}
 use mathlib.Core.List.{List, [], _∷_, map}
 use mathlib.Core.Bool.{Bool, true, not, _&&_, and-eq-true-iff}
-use Prim.Native.Nat.{ℕ, zero, suc, _≤_, _<_, zero-le, suc-le-suc}
+use Prim.Native.Nat.{ℕ, zero, suc, _≤_, _<_, zero-le}
 use native.Mathlib.Omega.{arith}
 use borrow.Author.Tests.{ltb-true, leb-true, le-leb}
 use lib.Dec.{leb}
@@ -10,8 +10,8 @@ use lib.ListN.{getD}
 use lib.IntN.{ℤ, pos, negsuc, natAbs, negℤ}
 use lib.Signed.{leZ, ltZ, _≤ℤ_}
 use Rattle.ticks.proofs.Ticks.{ticks}
-use Rattle.meaning.specs.Plan.{MOST-END, TOP-LEVEL, LEAST-LEVEL}
-use Rattle.meaning.specs.Reading.{between, isEvent, isEnd, isLevel, allLevels, allZero, inRange, sameEvent}
+use Rattle.meaning.specs.Plan.{MOST-END, TOP-LEVEL}
+use Rattle.meaning.specs.Reading.{between, isEvent, isEnd, isLevel, allLevels, inRange, sameEvent}
 
 pub both : (a b : Bool) → (a && b) ≡ true → (a ≡ true) × (b ≡ true)
 both a b e = and-eq-true-iff a b .0 e
@@ -33,12 +33,6 @@ pub levels-mild : (ls : List ℤ) → allLevels ls ≡ true → (i : ℕ) → ge
 levels-mild [] e i = zero-le
 levels-mild (l ∷ ls) e zero = count-to TOP-LEVEL 0 l (both (isLevel l) (allLevels ls) e .0)
 levels-mild (l ∷ ls) e (suc i) = levels-mild ls (both (isLevel l) (allLevels ls) e .1) i
-
--- some level is not 0
-pub some-allowed : (ls : List ℕ) → not (allZero ls) ≡ true → (i : ℕ) × (LEAST-LEVEL ≤ getD ls i 0)
-some-allowed [] e = let z : _≡_ {A = ℕ} 0 1 = cc in absurd (omega arith)
-some-allowed (zero ∷ ls) e = let r = some-allowed ls e in (suc (r .0), r .1)
-some-allowed (suc l ∷ ls) e = (0, suc-le-suc zero-le)
 
 pub apart : (n : ℕ) (a b : ℤ) → isEvent n a ≡ true → isEvent n b ≡ true → not (sameEvent a b) ≡ true → natAbs a ≡ natAbs b → ⊥
 apart n (negsuc a) b ea eb d e = let z : _≡_ {A = ℕ} 0 1 = cc in omega arith

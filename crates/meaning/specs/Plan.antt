@@ -101,6 +101,13 @@ pub record Timetable (p : Plan) (t : Times) : Type 0 where
   pub within : (e : ℕ) → e < p .events → Within (pos 0) (t e) (pos (p .horizon))
   pub keeps : (k : ℕ) → k < length (p .records) → Allows (recordAt p k) t
 
+-- what a timetable was before T-04: keeps the horizon, all rules and all wish spans. Only `proofs/Spans` speaks of it: where there is a timetable, the best
+-- ones in the two senses are the same
+pub record Spanned (p : Plan) (t : Times) : Type 0 where
+  pub origin : t 0 ≡ pos 0
+  pub within : (e : ℕ) → e < p .events → Within (pos 0) (t e) (pos (p .horizon))
+  pub keeps : (k : ℕ) → k < length (p .records) → let r = recordAt p k in Within (low r) (t (end r) -ℤ t (start r)) (high r)
+
 -- ---- levels
 
 -- the levels of the wishes, in record order

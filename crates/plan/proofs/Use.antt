@@ -4,10 +4,11 @@ use mathlib.Core.Path.{_≡_, refl, ap, _∙_}
 use mathlib.Core.Bool.{false, cond}
 use mathlib.Core.List.{List, [], _∷_}
 use Prim.Native.Nat.{ℕ, zero, suc, _+_, _≤_, _<_}
+use native.Mathlib.Decide.{decLt}
 use native.Mathlib.Omega.{arith}
 use borrow.Author.Tests.{ne-eqb}
 use lib.Dec.{eqb}
-use lib.ListN.{length, getD, take, List·getD-append}
+use lib.ListN.{length, getD, take, List·getD-append, List·getD-eq-default}
 use lib.Seq.{slice, length-slice, getD-append-add, ext-getD}
 use Rattle.meaning.specs.Plan as M
 use Rattle.meaning.specs.Plan.{MOST-LEVELS-TOGETHER, nothing, recordAt}
@@ -116,8 +117,12 @@ module _ {p : M.Plan} {h : Plan} {area : List ℕ} (o : InMemory p h area) (k : 
       same = ext-getD 0 _ ls long (λ i q. let j : i < length ls = omega (arith, long) in
           slice-at area n (n + length ls) i (omega arith) ∙ o .levels (n + i) (omega (arith, fits)) ∙ level-at (p .records) k i l j)
 
-  -- nothing of a record is lost in memory: it is made again from its row
-  pub record-at : k < length (p .records) → recordOf area (rowAt h k) ≡ recordAt p k
-  record-at l =
-      let x = row-held l in
-      rw (x .row) (again area (rowAt h k .first) (recordAt p k) (o .faultless .each k l .levelled) (rw (x .row) at (x .levels)))
+  -- nothing of a record is lost in memory: it is made again from its row, and past the last one nothing is
+  pub record-at : recordOf area (rowAt h k) ≡ recordAt p k
+  record-at = go (decLt k (length (p .records)))
+    where
+      go : Dec (k < length (p .records)) → recordOf area (rowAt h k) ≡ recordAt p k
+      go (yes l) =
+          let x = row-held l in
+          rw (x .row) (again area (rowAt h k .first) (recordAt p k) (o .faultless .each k l .levelled) (rw (x .row) at (x .levels)))
+      go (no n) = rw (row-blank (omega arith), List·getD-eq-default (p .records) nothing {n = k} (omega arith))
