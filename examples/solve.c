@@ -1,4 +1,5 @@
-/* Solves the plan in a file, or from standard input where none is named, and prints it as the program `timetable` does.
+/* Solves the plan in a file, or from standard input where none is named, and prints it as the program `timetable` does; where
+ * there is no timetable, a last line says by how many ticks the bounds of the chain fall short.
  *
  *     cc -Iinclude -o solve examples/solve.c target/staticlib/libsolver.a
  *     ./solve examples/update.plan
@@ -92,6 +93,8 @@ static int solve(size_t length) {
         for (size_t step = 0; step < place; step++) {
             print_step(chain[step]);
         }
+        uint64_t ticks = timetable_ticks_short((const uint8_t *)text, length, chain, place);
+        printf("%" PRIu64 " %s short\n", ticks, ticks == 1 ? "tick" : "ticks");
         return NO_TIMETABLE;
     }
     printf("refused\t%d\t%zu\n", number, place);

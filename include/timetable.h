@@ -1,6 +1,6 @@
 /* Step timetables: best timetables of plans with rules and wishes, over whole numbers.
  *
- * Link with libsolver.a, on x86-64. The library allocates nothing, keeps nothing between calls and needs at most 64 KB of
+ * Link with libsolver.a, on x86-64. The library allocates nothing, keeps nothing between calls and needs at most 128 KB of
  * stack. It calls memcpy and memset and nothing else, so it runs freestanding where its host has these two. */
 #ifndef TIMETABLE_H
 #define TIMETABLE_H
@@ -13,9 +13,9 @@ extern "C" {
 #endif
 
 /* The least numbers of entries of the three result areas, and the most bytes of a text. */
-#define TIMETABLE_TIMES 64
+#define TIMETABLE_TIMES 128
 #define TIMETABLE_LEVELS 256
-#define TIMETABLE_CHAIN 64
+#define TIMETABLE_CHAIN 128
 #define TIMETABLE_TEXT 60000
 
 /* The outcome is a number, which timetable_solve returns, and a place, which it stores in *place.
@@ -62,6 +62,16 @@ extern "C" {
  * each other nor the text, and until the call returns nothing else writes the text or touches the areas. */
 uint8_t timetable_solve(const uint8_t *text, size_t n, int64_t *times, size_t nt, uint8_t *levels, size_t nl,
                         uint16_t *chain, size_t nc, size_t *place);
+
+/* By how many ticks the chain of these codes falls short in the plan in text[0 .. n-1]: what the weights of its bounds lack to
+ * zero. Whatever the times, they miss these bounds by so many ticks together at least.
+ *
+ * 0 where the text is refused or the codes are no chain of its plan, so 1 or more shows by itself that there is no timetable.
+ * The chain that timetable_solve gives for a text falls short in it by 1 or more; lend its first *place entries.
+ *
+ * Nothing is written. No pointer may be null, also where a length is 0, chain is aligned for its type, and until the call
+ * returns nothing else writes the text or the codes. */
+uint64_t timetable_ticks_short(const uint8_t *text, size_t n, const uint16_t *chain, size_t steps);
 
 #ifdef __cplusplus
 }

@@ -1,10 +1,8 @@
 //! Two solvers that find the distances afresh for every question of the ladder. Flat arrays, nothing allocated in between.
 use outside::plan::{Plan, Record};
 
-const MOST: usize = 64;
-
-/// Whether bounds leave a timetable. `times` gets the earliest one.
-pub trait Question {
+/// Whether bounds leave a timetable, for plans of up to so many events. `times` gets the earliest one.
+pub trait Question<const MOST: usize> {
     fn put(&mut self, events: usize, bounds: &[Bound], times: &mut [i32; MOST]) -> bool;
 }
 
@@ -23,7 +21,7 @@ pub struct Solved {
 }
 
 /// Climbs the ladder, whose first grade is part of the plan. A wish that is stuck is not asked again.
-pub fn solve(plan: &Plan, question: &mut impl Question) -> Option<Solved> {
+pub fn solve<const MOST: usize>(plan: &Plan, question: &mut impl Question<MOST>) -> Option<Solved> {
     let mut bounds = all_bounds(plan);
     let mut times = [0; MOST];
     let mut questions = 1;
@@ -80,7 +78,7 @@ fn run(wish: &Record, grade: u8) -> Option<(i32, i32)> {
 /// Delays events until all bounds hold, or for more rounds than there are events.
 pub struct BellmanFord;
 
-impl Question for BellmanFord {
+impl<const MOST: usize> Question<MOST> for BellmanFord {
     fn put(&mut self, events: usize, bounds: &[Bound], times: &mut [i32; MOST]) -> bool {
         *times = [0; MOST];
         for _ in 0..=events {
@@ -109,31 +107,31 @@ impl Question for BellmanFord {
 const FAR: i32 = 1_000_000_000;
 
 /// All shortest distances between events: three plain loops over a flat matrix.
-pub struct FloydWarshall {
+pub struct FloydWarshall<const MOST: usize> {
     distances: Vec<i32>,
 }
 
 /// The same with the row over which the others go held beside the matrix, so that the compiler can take many columns at once.
-pub struct FloydWarshallByRows {
+pub struct FloydWarshallByRows<const MOST: usize> {
     distances: Vec<i32>,
 }
 
-impl FloydWarshall {
-    pub fn new() -> FloydWarshall {
+impl<const MOST: usize> FloydWarshall<MOST> {
+    pub fn new() -> Self {
         FloydWarshall { distances: vec![0; MOST * MOST] }
     }
 }
 
-impl FloydWarshallByRows {
-    pub fn new() -> FloydWarshallByRows {
+impl<const MOST: usize> FloydWarshallByRows<MOST> {
+    pub fn new() -> Self {
         FloydWarshallByRows { distances: vec![0; MOST * MOST] }
     }
 }
 
-impl Question for FloydWarshall {
+impl<const MOST: usize> Question<MOST> for FloydWarshall<MOST> {
     fn put(&mut self, events: usize, bounds: &[Bound], times: &mut [i32; MOST]) -> bool {
         let d = &mut self.distances;
-        start(d, bounds);
+        start::<MOST>(d, bounds);
         for over in 0..events {
             for i in 0..events {
                 for j in 0..events {
@@ -145,10 +143,10 @@ impl Question for FloydWarshall {
     }
 }
 
-impl Question for FloydWarshallByRows {
+impl<const MOST: usize> Question<MOST> for FloydWarshallByRows<MOST> {
     fn put(&mut self, events: usize, bounds: &[Bound], times: &mut [i32; MOST]) -> bool {
         let d = &mut self.distances;
-        start(d, bounds);
+        start::<MOST>(d, bounds);
         let mut onward = [0; MOST];
         for over in 0..events {
             onward.copy_from_slice(&d[over * MOST..(over + 1) * MOST]);
@@ -164,7 +162,7 @@ impl Question for FloydWarshallByRows {
 }
 
 /// The bounds alone.
-fn start(d: &mut [i32], bounds: &[Bound]) {
+fn start<const MOST: usize>(d: &mut [i32], bounds: &[Bound]) {
     d.fill(FAR);
     for event in 0..MOST {
         d[event * MOST + event] = 0;
@@ -176,7 +174,7 @@ fn start(d: &mut [i32], bounds: &[Bound]) {
 }
 
 /// The earliest times, and whether there are any.
-fn earliest(d: &[i32], events: usize, times: &mut [i32; MOST]) -> bool {
+fn earliest<const MOST: usize>(d: &[i32], events: usize, times: &mut [i32; MOST]) -> bool {
     for event in 0..events {
         times[event] = -d[event * MOST];
     }

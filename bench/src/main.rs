@@ -1,4 +1,5 @@
-//! Times of the proved libraries beside plain Rust programs, in one run. Nothing is asserted about time.
+//! Times of the proved libraries beside plain Rust programs, in one run, for plans of 64 and of 128 events. Nothing is asserted
+//! about time.
 mod afresh;
 
 use afresh::{BellmanFord, FloydWarshall, FloydWarshallByRows};
@@ -12,13 +13,21 @@ use std::time::{Duration, Instant};
 
 const PLANS: usize = 200;
 /// Floyd-Warshall afresh is slow: it gets fewer plans.
-const FEW_PLANS: usize = 10;
+const FEW_PLANS: usize = 3;
+
+/// A figure's name, and what it is for plans of one number of events.
+type Figures = Vec<(&'static str, String)>;
 
 fn main() {
     let cores = std::thread::available_parallelism().map_or(0, |cores| cores.get());
     println!("machine: {cores} cores, {}", processor());
-    reading();
-    climbing();
+    println!("{:44}{:>12}{:>12}", "", "64 events", "128 events");
+    println!("a full text: 256 wishes with 32 levels each");
+    print(reading::<64>(), reading::<128>());
+    println!("{PLANS} plans of 256 wishes, a plan");
+    print(climbing::<64>(), climbing::<128>());
+    println!("the first {FEW_PLANS} of them, since these opponents are slow");
+    print(slow_opponents::<64>(), slow_opponents::<128>());
 }
 
 fn processor() -> String {
@@ -27,33 +36,44 @@ fn processor() -> String {
     name.map_or("processor unknown", |(_, name)| name).to_string()
 }
 
+/// Side by side.
+fn print(of_64: Figures, of_128: Figures) {
+    for ((name, one), (_, other)) in of_64.into_iter().zip(of_128) {
+        println!("  {name:42}{one:>12}{other:>12}");
+    }
+}
+
 /// 256 wishes with 32 levels each: as many records and levels as are allowed.
-fn full_text() -> Vec<u8> {
+fn full_text(events: usize) -> Vec<u8> {
     let mut chance = Chance::new(31);
     let records = (0..256).map(|k| {
         let levels = generate::peaked_levels(&mut chance, 32, &[15]);
-        outside::plan::Record::wish(k % 64, (k + 1) % 64, chance.between(-100_000, 99_000), levels)
+        outside::plan::Record::wish(k % events, (k + 1) % events, chance.between(-100_000, 99_000), levels)
     });
-    Plan::new(64, 100_000).with(records.collect::<Vec<_>>()).text()
+    Plan::new(events, 100_000).with(records.collect::<Vec<_>>()).text()
 }
 
-fn reading() {
-    let text = full_text();
+fn reading<const EVENTS: usize>() -> Figures {
+    let text = full_text(EVENTS);
     let mut levels = [0; plan::LEVELS_AREA];
     assert!(plan::number(&text, &mut levels) == 0 && read(&text).is_ok(), "both readers take the text");
     let library = least(2_000, || plan::number(black_box(&text), &mut levels));
     let plain = least(2_000, || read(black_box(&text)));
-    println!("reading a full text of {} bytes:", text.len());
-    println!("  library {library:.1?}, plain Rust reader {plain:.1?}: {:.2} of its time", ratio(library, plain));
+    vec![
+        ("bytes", text.len().to_string()),
+        ("library, reading", format!("{library:.1?}")),
+        ("plain Rust reader", format!("{plain:.1?}")),
+        ("the library reads in so much of its time", format!("{:.2}", ratio(library, plain))),
+    ]
 }
 
-/// Plans with as many events and records as are allowed, most of them wishes, each with a timetable.
-fn plans() -> Vec<Plan> {
+/// Plans with as many records as are allowed, all of them wishes, each with a timetable.
+fn plans(events: usize) -> Vec<Plan> {
     let mut chance = Chance::new(32);
     let mut plans = Vec::new();
     for _ in 0..PLANS {
         let shape = Shape {
-            events: 64,
+            events,
             horizon: 100_000,
             records: 256,
             wishes: 100,
@@ -69,45 +89,64 @@ fn plans() -> Vec<Plan> {
     plans
 }
 
-fn climbing() {
-    let plans = plans();
+fn climbing<const EVENTS: usize>() -> Figures {
+    let plans = plans(EVENTS);
     let texts: Vec<Vec<u8>> = plans.iter().map(Plan::text).collect();
-    let questions: usize = plans.iter().zip(&texts).map(|(plan, text)| agree(plan, text)).sum();
+    let questions: usize = plans.iter().zip(&texts).map(|(plan, text)| agree::<EVENTS>(plan, text)).sum();
     let bytes: usize = texts.iter().map(Vec::len).sum();
-    println!(
-        "{PLANS} plans of 64 events and 256 records, a plan ({} bytes, {} questions):",
-        bytes / PLANS,
-        questions / PLANS
-    );
     let (reading, climbing) = library_times(&texts);
-    println!("  library: reading {reading:.1?}, climbing {climbing:.1?} (solving less reading)");
-    let afresh = mean(&plans, 3, |plan| afresh::solve(plan, &mut BellmanFord));
-    report("Bellman-Ford afresh", afresh, climbing);
-    println!("  the first {FEW_PLANS} of them, since these opponents are slow:");
-    let (few, climbing) = (&plans[..FEW_PLANS], library_times(&texts[..FEW_PLANS]).1);
-    let mut plain = FloydWarshall::new();
-    report("Floyd-Warshall afresh", mean(few, 2, |plan| afresh::solve(plan, &mut plain)), climbing);
-    let mut by_rows = FloydWarshallByRows::new();
-    report("Floyd-Warshall afresh, by rows", mean(few, 2, |plan| afresh::solve(plan, &mut by_rows)), climbing);
+    let afresh = mean(&plans, 3, |plan| afresh::solve::<EVENTS>(plan, &mut BellmanFord));
+    vec![
+        ("bytes", (bytes / PLANS).to_string()),
+        ("questions", (questions / PLANS).to_string()),
+        ("library, reading", format!("{reading:.1?}")),
+        ("library, climbing (solving less reading)", format!("{climbing:.1?}")),
+        ("Bellman-Ford afresh for each question", format!("{afresh:.1?}")),
+        (IN_SO_MUCH, part(climbing, afresh)),
+    ]
 }
 
-fn report(name: &str, time: Duration, library: Duration) {
-    println!("  {name}: {time:.1?}; the library climbs in 1/{:.1} of that", ratio(time, library));
+fn slow_opponents<const EVENTS: usize>() -> Figures {
+    let plans = &plans(EVENTS)[..FEW_PLANS];
+    let texts: Vec<Vec<u8>> = plans.iter().map(Plan::text).collect();
+    let climbing = library_times(&texts).1;
+    let (mut plain, mut by_rows) = (FloydWarshall::<EVENTS>::new(), FloydWarshallByRows::<EVENTS>::new());
+    let plain = mean(plans, 1, |plan| afresh::solve(plan, &mut plain));
+    let by_rows = mean(plans, 1, |plan| afresh::solve(plan, &mut by_rows));
+    vec![
+        ("Floyd-Warshall afresh", format!("{plain:.1?}")),
+        (IN_SO_MUCH, part(climbing, plain)),
+        ("Floyd-Warshall afresh, by rows", format!("{by_rows:.1?}")),
+        (IN_SO_MUCH, part(climbing, by_rows)),
+    ]
+}
+
+const IN_SO_MUCH: &str = "the library climbs in so much of that";
+
+fn part(library: Duration, opponent: Duration) -> String {
+    format!("1/{:.1}", ratio(opponent, library))
 }
 
 /// The library and Bellman-Ford give the same; returns the number of questions.
-fn agree(plan: &Plan, text: &[u8]) -> usize {
-    let (mut times, mut levels, mut chain) = ([0; 64], [0; 256], [0; 64]);
+fn agree<const EVENTS: usize>(plan: &Plan, text: &[u8]) -> usize {
+    let (mut times, mut levels, mut chain) = areas();
     let (number, place) = solver::solve(text, &mut times, &mut levels, &mut chain);
-    let wanted = afresh::solve(plan, &mut BellmanFord).expect("the plan has a timetable");
-    assert!(number == 0 && times[..] == wanted.times && levels[..place] == wanted.levels, "the solvers agree");
+    let wanted = afresh::solve::<EVENTS>(plan, &mut BellmanFord).expect("the plan has a timetable");
+    let same = number == 0 && times[..EVENTS] == wanted.times && levels[..place] == wanted.levels;
+    assert!(same, "the solvers agree");
     wanted.questions
+}
+
+type Areas = ([i64; solver::TIMES_AREA], [u8; solver::LEVELS_AREA], [u16; solver::CHAIN_AREA]);
+
+fn areas() -> Areas {
+    ([0; solver::TIMES_AREA], [0; solver::LEVELS_AREA], [0; solver::CHAIN_AREA])
 }
 
 /// Reading and climbing, a plan.
 fn library_times(texts: &[Vec<u8>]) -> (Duration, Duration) {
     let mut area = [0; plan::LEVELS_AREA];
-    let (mut times, mut levels, mut chain) = ([0; 64], [0; 256], [0; 64]);
+    let (mut times, mut levels, mut chain) = areas();
     let reading = mean(texts, 9, |text| plan::number(text, &mut area));
     let solving = mean(texts, 9, |text| solver::solve(text, &mut times, &mut levels, &mut chain));
     (reading, solving.saturating_sub(reading))

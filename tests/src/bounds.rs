@@ -40,8 +40,8 @@ fn ends(record: &Record) -> (i64, i64) {
     }
 }
 
-/// Every condition of a chain.
-pub fn check_chain(plan: &Plan, chain: &[u16]) -> Result<(), String> {
+/// By how many ticks a chain falls short, or which condition of a chain the codes fail.
+pub fn check_chain(plan: &Plan, chain: &[u16]) -> Result<u64, String> {
     let steps = steps(plan, chain)?;
     let fail = |why: String| Err(format!("{why}: chain {chain:?}"));
     let Some(first) = steps.first() else { return fail("no steps".into()) };
@@ -67,7 +67,7 @@ pub fn check_chain(plan: &Plan, chain: &[u16]) -> Result<(), String> {
     if Some(&first.start) != entered.first() {
         return fail(format!("the first step leaves {}, not the least event", first.start));
     }
-    Ok(())
+    Ok(sum.unsigned_abs())
 }
 
 /// The bounds that have these codes.

@@ -29,7 +29,7 @@ const HEIGHTS: &[i64] = &[1, 2, 5, 15, 15, 15];
 
 /// Plans of every size: many small ones, some at the limits, tight and loose, with and without timetables.
 pub fn any_shape(chance: &mut Chance) -> Shape {
-    let most_events = *chance.pick(&[2, 4, 8, 16, 64]);
+    let most_events = *chance.pick(&[2, 4, 8, 16, 64, 128]);
     let most_records = *chance.pick(&[3, 3, 6, 6, 12, 12, 30, 30, 60, 256]);
     Shape {
         events: 1 + chance.below(most_events),
@@ -48,7 +48,7 @@ pub fn any_shape(chance: &mut Chance) -> Shape {
 /// A plan with as many records as are allowed.
 pub fn full_shape(chance: &mut Chance) -> Shape {
     Shape {
-        events: 64 - *chance.pick(&[0, 0, 0, 10, 40]),
+        events: 128 - *chance.pick(&[0, 0, 0, 1, 10, 40, 64, 100]),
         horizon: *chance.pick(&[1_000, 10_000, 100_000]),
         records: 256 - *chance.pick(&[0, 0, 0, 1, 50]),
         wishes: *chance.pick(&[0, 20, 50, 100]),

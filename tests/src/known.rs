@@ -1,4 +1,4 @@
-//! The known plans of document 01, section 7, with their outcomes, as request T-04 changes them.
+//! The known plans of document 01, section 7, with their outcomes, as requests T-04 and T-10 change them.
 use crate::outcome::Outcome;
 use crate::plan::{Plan, Record};
 
@@ -19,7 +19,7 @@ fn refused(plan: &str, number: u8, place: usize) -> (Vec<u8>, Outcome) {
     (text(plan), Outcome::Refused { number, place })
 }
 
-/// Cases 1 to 12, then those that T-04 brings. Each of the plans without a timetable has one chain only.
+/// Cases 1 to 12, then those that T-04 and T-10 bring. Each of the plans without a timetable has one chain only.
 pub fn cases() -> Vec<(Vec<u8>, Outcome)> {
     let second = "events 4 20; rule 0 1 3 3; rule 1 2 0 20; wish 2 3 2 0 1 3 2; wish 0 3 4 3 3 2 2 1 0";
     vec![
@@ -45,6 +45,11 @@ pub fn cases() -> Vec<(Vec<u8>, Outcome)> {
         solved("events 2 1; wish 0 1 0 6 2; wish 0 1 0 1 2", &[0, 1], &[2, 2]),
         refused("events 2 9; wish 0 1 0 0 0 0", 8, 2),
         refused("events 2 9; wish 1 1 0 0 0 0", 5, 2),
+        // As many events as are allowed, and one more; the horizon's codes of event 127.
+        solved("events 128 0", &[0; 128], &[]),
+        refused("events 129 0", 4, 1),
+        none("events 128 0; rule 0 127 1 1", &[766, 1]),
+        none("events 128 9; rule 127 0 1 1", &[1, 767]),
     ]
 }
 

@@ -1,5 +1,5 @@
 //! Texts at the limits of document 01, one past them, and with several faults, each with the refusal that sections 1 to 4 and
-//! request T-04 state.
+//! requests T-04 and T-10 state.
 use crate::plan::*;
 use crate::reader::Refusal;
 
@@ -22,12 +22,13 @@ pub fn numbers() -> Vec<Stated> {
     let far = [-9_999_999, -100_001, 100_001, 9_999_999];
     let ends = [-100_000, -99_999, -1, 0, 1, 99_999, 100_000];
     [
-        ranged("events ", " 9;", 1, &[1, 2, 63, 64], &[0, -1, 65, 66, 9_999_999, -9_999_999]),
+        ranged("events ", " 9;", 1, &[1, 2, 64, 65, 127, 128], &[0, -1, 129, 130, 256, 9_999_999, -9_999_999]),
         ranged("events 2 ", ";", 1, &[0, 1, 99_999, 100_000], &[-1, 100_001, 9_999_999, -9_999_999]),
-        ranged("events 5 9;rule ", " 0 0 1;", 2, &[1, 4], &[-1, 5, 6, 64, 9_999_999]),
-        ranged("events 5 9;rule 0 ", " 0 1;", 2, &[1, 4], &[-1, 5, 6, 64, 9_999_999]),
+        ranged("events 5 9;rule ", " 0 0 1;", 2, &[1, 4], &[-1, 5, 6, 64, 128, 9_999_999]),
+        ranged("events 5 9;rule 0 ", " 0 1;", 2, &[1, 4], &[-1, 5, 6, 64, 128, 9_999_999]),
         ranged("events 64 9;rule ", " 0 0 1;", 2, &[1, 62, 63], &[64, 65]),
-        ranged("events 64 9;wish 0 ", " 0 1;", 2, &[1, 62, 63], &[64, 65, -1]),
+        ranged("events 128 9;rule ", " 0 0 1;", 2, &[1, 63, 64, 65, 126, 127], &[128, 129, 256]),
+        ranged("events 128 9;wish 0 ", " 0 1;", 2, &[1, 63, 64, 65, 126, 127], &[128, 129, 256, -1]),
         ranged("events 2 9;rule 0 1 ", " 100000;", 2, &ends, &far),
         ranged("events 2 9;rule 0 1 -100000 ", ";", 2, &ends, &far),
         ranged("events 2 9;rule 0 1 5 ", ";", 2, &[5, 6], &[4, -5]),
@@ -44,18 +45,18 @@ pub fn numbers() -> Vec<Stated> {
 }
 
 fn rules(count: usize) -> Vec<Record> {
-    (0..count).map(|k| Record::rule(k % 63, 63, -(k as i64), 100_000 - k as i64)).collect()
+    (0..count).map(|k| Record::rule(k % 127, 127, -(k as i64), 100_000 - k as i64)).collect()
 }
 
 /// Wishes with as many levels as the list says, up to 15.
 fn wishes(counts: &[usize]) -> Vec<Record> {
     let levels = |count: usize| (1..=count).map(|i| (i * 15 / count) as u8).collect();
-    counts.iter().enumerate().map(|(k, &count)| Record::wish(63, k % 63, -(k as i64), levels(count))).collect()
+    counts.iter().enumerate().map(|(k, &count)| Record::wish(127, k % 127, -(k as i64), levels(count))).collect()
 }
 
 /// Records, levels in one wish and levels together, at the limit and one past it.
 pub fn counts() -> Vec<Stated> {
-    let plan = |records: Vec<Record>, refusal| (Plan::new(64, 100_000).with(records).text(), refusal);
+    let plan = |records: Vec<Record>, refusal| (Plan::new(128, 100_000).with(records).text(), refusal);
     let mixed = |count: usize| [rules(count / 2), wishes(&vec![3; count - count / 2])].concat();
     vec![
         plan(rules(255), None),
@@ -172,8 +173,8 @@ pub fn orders() -> Vec<Stated> {
         stated("events 2 9;rule 1 1 4 5;", Some((5, 2))),
         stated("events 1 9;rule 0 0 4 5;", Some((5, 2))),
         stated("events 1 9;rule 0 1 4 5;", Some((4, 2))),
-        stated("events 65 9;rule 1 1 4 5;", Some((4, 1))),
-        stated("events 65 9;rule 1 1 4", Some((4, 1))),
+        stated("events 129 9;rule 1 1 4 5;", Some((4, 1))),
+        stated("events 129 9;rule 1 1 4", Some((4, 1))),
     ]);
     texts.extend(past_the_records());
     texts
@@ -211,7 +212,7 @@ fn zeros_in_range() -> Vec<Stated> {
 
 /// At the limits of levels and of records, and past them; with another line at fault.
 fn zeros_counted() -> Vec<Stated> {
-    let plan = |records: Vec<Record>, refusal| (Plan::new(64, 100_000).with(records).text(), Some(refusal));
+    let plan = |records: Vec<Record>, refusal| (Plan::new(128, 100_000).with(records).text(), Some(refusal));
     let zeros = |count: usize| vec![Record::wish(0, 1, 0, vec![0; count])];
     let room_for_one = || wishes(&[&[256; 31][..], &[255]].concat());
     vec![
@@ -251,7 +252,7 @@ pub fn single_distances() -> Vec<Stated> {
 
 /// A 257th line: its form comes before its being one too many, and that before its other faults.
 fn past_the_records() -> Vec<Stated> {
-    let full = Plan::new(64, 9).with(rules(256)).text();
+    let full = Plan::new(128, 9).with(rules(256)).text();
     let with = |line: &str, refusal| ([full.clone(), stated(line, None).0].concat(), Some(refusal));
     vec![
         with("rule 0 1 5 4;", (3, 258)),

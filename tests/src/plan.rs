@@ -1,6 +1,6 @@
 //! A plan as document 01, section 1, describes it, and its text. A `Plan` may break the rules: the reader decides.
 
-pub const MOST_EVENTS: i64 = 64;
+pub const MOST_EVENTS: i64 = 128;
 pub const MOST_HORIZON: i64 = 100_000;
 pub const MOST_END: i64 = 100_000;
 pub const MOST_RECORDS: usize = 256;

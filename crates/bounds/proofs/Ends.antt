@@ -50,15 +50,15 @@ pub record Chained (p : M.Plan) (before : List ℕ) (k : ℕ) (after : List ℕ)
 
 module _ {p : M.Plan} {list : List Entry} (w : WithoutFault p) (s : Listed p list) where
   -- ---- the start
-  module _ {d : List ℤ} (o : Started (p .horizon) d) where
+  module _ {d : List ℤ} (o : Started (p .events) (p .horizon) d) where
     pub start-net : Net (p .events) (p .horizon) d
     start-net = started-net o (w .some) (w .most) (w .near)
 
     pub start-keeps : {t : Times} → Keeps (p .events) (at d) t ↔ Horizon (p .events) (p .horizon) t
-    start-keeps = started-means o (w .some) (w .most)
+    start-keeps = started-means o (w .some)
 
     pub start-walks : Walks (p .events) (λ b. List·Memᴰ b (listed list (horizonCount p))) (at d)
-    start-walks = walks-same (λ i j hi hj. o .start i j (omega (arith, w .most)) (omega (arith, w .most)))
+    start-walks = walks-same (o .start)
         (rw (listed-horizon s) (walks-horizon (p .events) (p .horizon) (B.Given (bare p)) (given-horizon-upper (bare p)) (given-horizon-lower (bare p))))
 
     pub start-trying : Trying list (horizonCount p) (boundCount p) (p .events) d

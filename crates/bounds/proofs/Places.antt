@@ -7,13 +7,11 @@ use native.Mathlib.Nat.{le-refl}
 use native.Mathlib.Omega.{arith}
 use lib.ListN.{length, take, drop}
 use lib.Seq.{take-add, take-take, take-at}
-use lib.IntN.{pos, negℤ}
-use Rattle.ticks.proofs.Ticks.{ticks, neg}
 use Rattle.meaning.specs.Plan as M
-use Rattle.meaning.specs.Plan.{MOST-END, Within}
-use Rattle.meaning.specs.Bounds.{Bound, shortest, recordBounds, horizonBounds}
+use Rattle.meaning.specs.Bounds.{Bound, recordBounds, horizonBounds}
 use Rattle.meaning.proofs.Bounds as B
-use Rattle.meaning.proofs.Bounds.{bound-placed, each-bound, good-ends}
+use Rattle.meaning.proofs.Bounds.{bound-placed}
+use Rattle.meaning.proofs.Sums.{bound-near}
 use Rattle.meaning.specs.Faultless.{WithoutFault}
 use Rattle.chain.specs.declared.Bound.{Bound as Entry}
 use Rattle.chain.specs.Clash.{MOST-BOUNDS, boundOf, boundAt, listed, Fit, Given}
@@ -44,15 +42,6 @@ module _ (p : M.Plan) where
       let hs = horizonBounds (p .horizon) 1 (p .events - 1) in
       let rs = recordBounds 0 (p .records) in
       ⊎-elim (λ q. Memᴰ·append-right hs q) (λ q. Memᴰ·append-left rs q) (List·Memᴰ·append-cases rs m)
-
-  -- their weights
-  pub bound-weight : WithoutFault p → (b : Bound) → B.Given p b → Within (negℤ (pos MOST-END)) (b .weight) (pos MOST-END)
-  bound-weight w = each-bound p (λ b. Within (negℤ (pos MOST-END)) (b .weight) (pos MOST-END))
-      (λ k h. let g = good-ends (M.recordAt p k) (w .each k h) in (
-        record { above = omega (ticks, g .lowest, g .ordered); below = g .highest },
-        record { above = omega (ticks, neg (shortest (M.recordAt p k)), g .ordered, g .highest); below = omega (ticks, g .lowest) },
-      ))
-      (λ e h l. (record { above = omega ticks; below = omega (ticks, w .near) }, record { above = omega ticks; below = omega ticks }))
 
 length-horizon : (H e m : ℕ) → length (horizonBounds H e m) ≡ 2 * m
 length-horizon H e zero = refl
@@ -93,7 +82,7 @@ module _ {p : M.Plan} {list : List Entry} (s : Listed p list) where
     place-fit k h =
         let g = place-given k h in
         let l = bound-placed p w (boundAt list k) g in
-        record { start = l .starts; end = l .ends; weight = bound-weight p w (boundAt list k) g }
+        record { start = l .starts; end = l .ends; weight = bound-near p w (boundAt list k) g }
 
     pub listed-fit : {m : ℕ} → m ≤ boundCount p → Given list (p .events) m
     listed-fit h = record { long = s .long; inside = omega (arith, bound-count); fit = λ k l. place-fit k (omega arith) }

@@ -1,27 +1,32 @@
 -- The bound that a code names: what the rows of memory say of it, and that the bounds of a plan have names.
-use mathlib.Core.Path.{_≡_, ap, _∙_}
-use mathlib.Core.Logic.{_⊎_, inl, inr, ⊎-elim}
-use mathlib.Core.List.{List, [], _∷_, List·Memᴰ, List·Memᴰ·not-nil, List·Memᴰ·cases-cons, List·Memᴰ·append-cases}
-use Prim.Native.Nat.{ℕ, zero, suc, _+_, _*_, _-_, _/_, _%_, _≤_, _<_}
+use mathlib.Core.Path.{_≡_, refl, sym, ap, _∙_, subst}
+use mathlib.Core.Bool.{Bool, true, false, cond, not, _&&_}
+use Prim.Native.Nat.{ℕ, _+_, _*_, _-_, _/_, _%_, _≤_, _<_}
 use native.Mathlib.Omega.{arith}
-use borrow.Author.Tests.{eq-eqb, ne-eqb, lt-ltb, le-ltb}
+use borrow.Author.Tests.{eq-eqb, ne-eqb, lt-ltb, le-ltb, eqb-true, eqb-false, ltb-true, ltb-false, not-true}
+use lib.Dec.{eqb, ltb}
 use lib.IntN.{ℤ, pos, negℤ}
-use lib.ListN.{length, getD}
+use lib.ListN.{length}
 use Rattle.meaning.specs.Plan as M
-use Rattle.meaning.specs.Plan.{MOST-RECORDS, nothing, recordAt}
-use Rattle.meaning.specs.Bounds.{Bound, HORIZON-CODES, upper, lower, horizonUpper, horizonLower, recordBounds, horizonBounds, bounds}
+use Rattle.meaning.specs.Plan.{MOST-RECORDS, recordAt}
+use Rattle.meaning.specs.Bounds.{Bound, HORIZON-CODES, upper, lower, horizonUpper, horizonLower}
 use Rattle.meaning.specs.Faultless.{WithoutFault}
+use Rattle.meaning.proofs.Tests.{both}
+use Rattle.meaning.proofs.Bounds.{Given, each-bound, given-upper, given-lower, given-horizon-upper, given-horizon-lower}
 use Rattle.plan.specs.declared.Record.{Record}
 use Rattle.plan.specs.declared.Plan.{Plan}
 use Rattle.plan.specs.Held.{rowOf}
 use Rattle.cut.specs.declared.Ends.{Ends}
 use Rattle.cut.specs.Cut.{allowed}
-use Rattle.codes.specs.Codes.{named, ofRecord, ofHorizon}
+use Rattle.codes.specs.Codes.{named, isCode, ofRecord, ofHorizon}
 
 -- ---- a code and the record or the event that it names
 
 abbrev pub bound : ℕ → ℕ → ℤ → ℕ → Bound
 bound a b w c = record { start = a; end = b; weight = w; code = c }
+
+pub bound-same : {a a′ b b′ c : ℕ} {w w′ : ℤ} → a ≡ a′ → b ≡ b′ → w ≡ w′ → bound a b w c ≡ bound a′ b′ w′ c
+bound-same {c = c} e f g = λ i. bound (e i) (f i) (g i) c
 
 module _ (p : M.Plan) (c : ℕ) where
   module _ (r : Record) (first : ℕ) (e : r ≡ rowOf first (recordAt p (c / 2))) (ends : Ends) (f : ends ≡ allowed (recordAt p (c / 2))) where
@@ -74,40 +79,62 @@ module _ (p : M.Plan) where
         let q : (HORIZON-CODES + 2 * k + 1 - HORIZON-CODES) / 2 ≡ k = omega arith in
         name-horizon p (HORIZON-CODES + 2 * k + 1) (omega arith) ∙ rw (ne-eqb ((HORIZON-CODES + 2 * k + 1) % 2) 0 (λ e. omega arith), q)
 
-  module _ (b : Bound) where
-    -- b is one of two bounds that have their names, or one of the others
-    two-named : {x y : Bound} {others : List Bound} → Named x → Named y → (List·Memᴰ b others → Named b) → List·Memᴰ b (x ∷ y ∷ others) → Named b
-    two-named {x} {y} {others} f g h m = first (List·Memᴰ·cases-cons m)
-      where
-        same : {z : Bound} → Named z → b ≡ z → Named b
-        same n e = rw e n
-
-        second : (b ≡ y) ⊎ List·Memᴰ b others → Named b
-        second (inl e) = same g e
-        second (inr n) = h n
-
-        first : (b ≡ x) ⊎ List·Memᴰ b (y ∷ others) → Named b
-        first (inl e) = same f e
-        first (inr n) = second (List·Memᴰ·cases-cons n)
-
-    records-named : (k : ℕ) (rs : List M.Record) → k + length rs ≤ MOST-RECORDS → ((i : ℕ) → i < length rs → getD rs i nothing ≡ recordAt p (k + i)) →
-        List·Memᴰ b (recordBounds k rs) → Named b
-    records-named k [] l f m = absurd (List·Memᴰ·not-nil m)
-    records-named k (r ∷ rs) l f m =
-        two-named (rw here (upper-named k (omega arith))) (rw here (lower-named k (omega arith)))
-        (λ n. records-named (suc k) rs (omega arith) (λ i h. f (suc i) (omega arith) ∙ ap (recordAt p) (omega arith)) n) m
-      where
-        here : r ≡ recordAt p k
-        here = f 0 (omega arith) ∙ ap (recordAt p) (omega arith)
-
-    horizon-named : (e m : ℕ) → List·Memᴰ b (horizonBounds (p .horizon) e m) → Named b
-    horizon-named e zero n = absurd (List·Memᴰ·not-nil n)
-    horizon-named e (suc m) n = two-named (latest-named e) (earliest-named e) (λ o. horizon-named (suc e) m o) n
-
 -- what is printed for a code of a chain is the bound that has the code
-pub named-right : {p : M.Plan} → WithoutFault p → (b : Bound) → List·Memᴰ b (bounds p) → named p (b .code) ≡ b
-named-right {p} g b m =
-    ⊎-elim
-    (λ n. records-named p b 0 (p .records) (omega (arith, g .few)) (λ i h. ap (recordAt p) (omega arith)) n)
-    (λ n. horizon-named p b 1 (p .events - 1) n)
-    (List·Memᴰ·append-cases (recordBounds 0 (p .records)) m)
+pub named-right : {p : M.Plan} → WithoutFault p → (b : Bound) → Given p b → named p (b .code) ≡ b
+named-right {p} g =
+    each-bound p (Named p) (λ k l. (upper-named p k (omega (arith, l, g .few)), lower-named p k (omega (arith, l, g .few))))
+    (λ e some few. (latest-named p e, earliest-named p e))
+
+-- ---- the codes of the bounds of a plan: those of its records, and those of the horizon for its events other than 0
+
+-- a bound of the plan with this code
+abbrev Has : M.Plan → ℕ → Bound → Type 0
+Has p c b = Given p b × (b .code ≡ c)
+
+module _ (p : M.Plan) (c : ℕ) where
+  record-has : c / 2 < length (p .records) → Has p c (ofRecord p c)
+  record-has l = at (eqb (c % 2) 0) refl
+    where
+      at : (t : Bool) → eqb (c % 2) 0 ≡ t → Has p c (cond t (upper (c / 2) (recordAt p (c / 2))) (lower (c / 2) (recordAt p (c / 2))))
+      at true q = (given-upper p (c / 2) l, omega (arith, eqb-true (c % 2) 0 q))
+      at false q = (given-lower p (c / 2) l, omega (arith, eqb-false (c % 2) 0 q))
+
+  horizon-has : HORIZON-CODES ≤ c → let e = (c - HORIZON-CODES) / 2 in 1 ≤ e → e < p .events → Has p c (ofHorizon p c)
+  horizon-has low some few = at (eqb (c % 2) 0) refl
+    where
+      at : (t : Bool) → eqb (c % 2) 0 ≡ t → let e = (c - HORIZON-CODES) / 2 in Has p c (cond t (horizonUpper (p .horizon) e) (horizonLower e))
+      at true q = (given-horizon-upper p _ some few, omega (arith, low, eqb-true (c % 2) 0 q))
+      at false q = (given-horizon-lower p _ some few, omega (arith, low, eqb-false (c % 2) 0 q))
+
+  -- such a code names a bound of the plan
+  pub code-named : isCode (p .events) (length (p .records)) c ≡ true → Has p c (named p c)
+  unfolding isCode
+  code-named h = at (ltb c HORIZON-CODES) refl h
+    where
+      at : (t : Bool) → ltb c HORIZON-CODES ≡ t →
+          let e = (c - HORIZON-CODES) / 2 in
+          cond t (ltb (c / 2) (length (p .records))) (not (eqb e 0) && ltb e (p .events)) ≡ true → Has p c (named p c)
+      at true q m = subst (Has p c) (sym (name-record p c (ltb-true c HORIZON-CODES q))) (record-has (ltb-true _ _ m))
+      at false q m =
+          let low = ltb-false c HORIZON-CODES q in
+          let parts = both _ _ m in
+          let some = eqb-false ((c - HORIZON-CODES) / 2) 0 (not-true _ (parts .0)) in
+          subst (Has p c) (sym (name-horizon p c low)) (horizon-has low (omega (arith, some)) (ltb-true _ _ (parts .1)))
+
+-- and each bound of the plan has one
+pub given-code : {p : M.Plan} → WithoutFault p → (b : Bound) → Given p b → isCode (p .events) (length (p .records)) (b .code) ≡ true
+unfolding isCode
+given-code {p} g =
+    each-bound p _ (λ k l. (of-record (2 * k) k l (omega arith), of-record (2 * k + 1) k l (omega arith)))
+    (λ e some few. (
+      of-horizon (HORIZON-CODES + 2 * e) e some few (omega arith) (omega arith),
+      of-horizon (HORIZON-CODES + 2 * e + 1) e some few (omega arith) (omega arith),
+    ))
+  where
+    of-record : (c k : ℕ) → k < length (p .records) → c / 2 ≡ k → isCode (p .events) (length (p .records)) c ≡ true
+    of-record c k l q =
+        let low : c < HORIZON-CODES = omega (arith, g .few) in
+        rw (lt-ltb c HORIZON-CODES low, q, lt-ltb k (length (p .records)) l)
+
+    of-horizon : (c e : ℕ) → 1 ≤ e → e < p .events → HORIZON-CODES ≤ c → (c - HORIZON-CODES) / 2 ≡ e → isCode (p .events) (length (p .records)) c ≡ true
+    of-horizon c e some few low q = rw (le-ltb c HORIZON-CODES low, q, ne-eqb e 0 (λ z. omega (arith, some, z)), lt-ltb e (p .events) few)

@@ -1,14 +1,8 @@
--- Any two steps that satisfy the promise of `step_of` are equal: a step is its four numbers.
+-- Any two steps that satisfy the promise of `step_of` are equal: a step is what its bound is.
 use mathlib.Core.Path.{_≡_, ap}
-use mathlib.Core.List.{List}
-use Prim.Native.Nat.{ℕ}
-use lib.IntN.{ℤ, pos}
-use lib.ListN.{getD}
+use Rattle.meaning.specs.Bounds.{Bound}
 use Rattle.codes.specs.declared.Step.{Step}
-use Rattle.codes.specs.Codes.{numbersOf}
+use Rattle.codes.specs.Codes.{asBound}
 
-number : (s t : Step) → numbersOf s ≡ numbersOf t → (k : ℕ) → getD (numbersOf s) k (pos 0) ≡ getD (numbersOf t) k (pos 0)
-number s t e k = ap (λ (l : List ℤ). getD l k (pos 0)) e
-
-pub one-step : (s t : Step) → numbersOf s ≡ numbersOf t → s ≡ t
-one-step s t e = let n = number s t e in rw (n 0, n 1, n 2, n 3)
+pub one-step : (s t : Step) → asBound s ≡ asBound t → s ≡ t
+one-step s t e = ap (λ (b : Bound). record { from = b .start; to = b .end; weight = b .weight; code = b .code }) e

@@ -1,9 +1,7 @@
--- The bound that a code names: document 01, section 5; and its numbers in the order of a line `step`.
+-- The bound that a code names: document 01, section 5; and which codes are those of a plan's bounds.
 use Prim.Native.Nat.{ℕ, _-_, _/_, _%_}
-use mathlib.Core.Bool.{cond}
-use mathlib.Core.List.{List, [], _∷_}
+use mathlib.Core.Bool.{Bool, cond, _&&_, not}
 use lib.Dec.{eqb, ltb}
-use lib.IntN.{ℤ, pos}
 use Rattle.meaning.specs.Plan.{Plan, recordAt}
 use Rattle.meaning.specs.Bounds.{Bound, HORIZON-CODES, upper, lower, horizonUpper, horizonLower}
 use Rattle.codes.specs.declared.Step.{Step}
@@ -18,9 +16,12 @@ ofHorizon p c = cond (eqb (c % 2) 0) (horizonUpper (p .horizon) ((c - HORIZON-CO
 unfoldable pub named : Plan → ℕ → Bound
 named p c = cond (ltb c HORIZON-CODES) (ofRecord p c) (ofHorizon p c)
 
--- from, to, weight, code: as the struct holds them, and those of a bound
-abbrev pub numbersOf : Step → List ℤ
-numbersOf s = s .from ∷ s .to ∷ s .weight ∷ s .code ∷ []
+-- whether a plan of so many events and records has a bound with this code
+unfoldable pub isCode : ℕ → ℕ → ℕ → Bool
+isCode events records c =
+    let e = (c - HORIZON-CODES) / 2 in
+    cond (ltb c HORIZON-CODES) (ltb (c / 2) records) (not (eqb e 0) && ltb e events)
 
-abbrev pub stepNumbers : Bound → List ℤ
-stepNumbers b = pos (b .start) ∷ pos (b .end) ∷ b .weight ∷ pos (b .code) ∷ []
+-- the bound that the struct holds
+abbrev pub asBound : Step → Bound
+asBound s = record { start = s .from; end = s .to; weight = s .weight; code = s .code }

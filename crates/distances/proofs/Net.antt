@@ -4,12 +4,11 @@ use mathlib.Core.Path.{_≡_, refl, sym, _∙_}
 use mathlib.Core.Logic.{_↔_}
 use mathlib.Core.Bool.{Bool, true, false, _&&_, true≢false, false≢true}
 use mathlib.Core.List.{List}
-use native.Mathlib.Omega.{arith}
 use lib.IntN.{ℤ, pos, negℤ, _+ℤ_, _-ℤ_}
 use lib.Signed.{leZ, _≤ℤ_}
 use Rattle.ticks.proofs.Ticks.{ticks, neg, sum}
 use Rattle.meaning.specs.Plan.{Within, MOST-END, MOST-HORIZON}
-use Rattle.meaning.specs.Distances.{added, Closed, Keeps, Adds, Below, horizonOnly}
+use Rattle.meaning.specs.Distances.{added, Closed, Keeps, Adds, Below}
 use Rattle.meaning.proofs.Distances.{adds-closed, adds-below, adds-keeps, adds-old, adds-new}
 use Rattle.meaning.proofs.Distances.{start-closed, start-below, start-means, means-start, same-set, Horizon}
 use Rattle.distances.specs.Matrix.{STRIDE, at, meeting, Net, Changed, Started, Adding, Narrowing, Cut, Narrowed}
@@ -24,25 +23,20 @@ same-closed c f = record {
 same-below : {n H : ℕ} {D E : ℕ → ℕ → ℤ} → Below n H D → ((i j : ℕ) → i < n → j < n → E i j ≡ D i j) → Below n H E
 same-below r f = record { hi = λ {i} {j} p q. omega (ticks, f i j p q, r .hi p q) }
 
-started-at : {n H : ℕ} {d : List ℤ} → Started H d → n ≤ STRIDE → (i j : ℕ) → i < n → j < n → at d i j ≡ horizonOnly H i j
-started-at s few i j p q = s .start i j (omega arith) (omega arith)
+-- ---- the horizon alone
+pub started-net : {n H : ℕ} {d : List ℤ} → Started n H d → 0 < n → n ≤ STRIDE → H ≤ MOST-HORIZON → Net n H d
+started-net {n} {H} s some few near = record {
+  size = s .size;
+  some = some;
+  events = few;
+  near = near;
+  closed = same-closed (start-closed n H) (s .start);
+  below = same-below (start-below n H) (s .start);
+}
 
-pub started-net : {n H : ℕ} {d : List ℤ} → Started H d → 0 < n → n ≤ STRIDE → H ≤ MOST-HORIZON → Net n H d
-started-net {n} {H} {d} s some few near =
-    let all = started-at s few in
-    record {
-      size = s .size;
-      some = some;
-      events = few;
-      near = near;
-      closed = same-closed (start-closed n H) all;
-      below = same-below (start-below n H) all;
-    }
-
-pub started-means : {n H : ℕ} {d : List ℤ} {t : ℕ → ℤ} → Started H d → 0 < n → n ≤ STRIDE → Keeps n (at d) t ↔ Horizon n H t
-started-means {n} {H} {d} s some few =
-    let all = started-at s few in
-    ((λ k. start-means some (same-set all k)), (λ k. same-set (λ i j p q. sym (all i j p q)) (means-start k)))
+pub started-means : {n H : ℕ} {d : List ℤ} {t : ℕ → ℤ} → Started n H d → 0 < n → Keeps n (at d) t ↔ Horizon n H t
+started-means s some =
+    ((λ k. start-means some (same-set (s .start) k)), (λ k. same-set (λ i j p q. sym (s .start i j p q)) (means-start k)))
 
 -- ---- one more bound
 changed-adds : {n : ℕ} {d d′ : List ℤ} (a b : ℕ) (w : ℤ) → Changed n n d d′ (added (at d) a b w) → Adds n a b w (at d) (at d′)

@@ -9,13 +9,13 @@ use native.Mathlib.Omega.{arith}
 use lib.ListN.{getD}
 use lib.Seq.{ext-getD}
 use lib.IntN.{ℤ}
-use Rattle.distances.specs.Matrix.{Started, Adding, Added, Narrowing, Cut, Narrowed}
+use Rattle.distances.specs.Matrix.{Starting, Started, Beside, Adding, Added, Narrowing, Cut, Narrowed}
 use Rattle.distances.specs.Sweep.{Swept}
-use Rattle.distances.proofs.Rows.{same-rows, one-result}
+use Rattle.distances.proofs.Rows.{one-result, one-matrix}
 
--- `start`: every row and column is promised
-pub one-start : {h : ℕ} {x y : List ℤ} → Started h x → Started h y → x ≡ y
-one-start u v = same-rows (u .size ∙ sym (v .size)) (λ i j l h. u .start i j (omega (arith, u .size)) l ∙ sym (v .start i j (omega (arith, u .size)) l))
+-- `start`
+pub one-start : {n h : ℕ} {d x y : List ℤ} → Starting n h d → Started n h x × Beside n d x → Started n h y × Beside n d y → x ≡ y
+one-start asked u v = one-matrix (asked .size) (asked .events) (u .1) (v .1) (λ i j p q. u .0 .start i j p q ∙ sym (v .0 .start i j p q))
 
 -- two answers that are the same are both yes or both no
 alike : {x y : List ℤ} {q r : Bool} → q ≡ r → (q ≡ true → r ≡ true → x ≡ y) → (q ≡ false → r ≡ false → x ≡ y) → (q ≡ r) × (x ≡ y)

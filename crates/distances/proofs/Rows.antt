@@ -19,15 +19,6 @@ use Rattle.distances.specs.Sweep.{Swept}
 use Rattle.distances.specs.Rows.{lowered}
 use Rattle.distances.proofs.Sweep.{swept-as}
 
--- a sweep over all entries, by rows and columns
-pub by-rows : {d d′ : List ℤ} (f : ℕ → ℕ → ℤ) → Swept (pos 0) d d′ 0 ENTRIES (λ k. f (k / STRIDE) (k % STRIDE)) →
-    (i j : ℕ) → i < STRIDE → j < STRIDE → at d′ i j ≡ f i j
-by-rows f s i j hi hj =
-    let e : 0 + (i * STRIDE + j) ≡ i * STRIDE + j = omega arith in
-    let q : (i * STRIDE + j) / STRIDE ≡ i = omega arith in
-    let r : (i * STRIDE + j) % STRIDE ≡ j = omega arith in
-    rw (e, q, r) at (s .done (i * STRIDE + j) (omega arith))
-
 -- row by row
 pub rows-none : {d : List ℤ} {n : ℕ} {f : ℕ → ℕ → ℤ} → Changed 0 n d d f
 rows-none =

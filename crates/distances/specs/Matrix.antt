@@ -49,13 +49,15 @@ pub record Place (i j : ℕ) (d : List ℤ) : Type 0 where
   pub column : j < STRIDE
 
 -- ---- the start
-pub record Starting (h : ℕ) (d : List ℤ) : Type 0 where
+pub record Starting (n h : ℕ) (d : List ℤ) : Type 0 where
   pub size : length d ≡ ENTRIES
+  pub events : n ≤ STRIDE
   pub near : h ≤ MOST-HORIZON
 
-pub record Started (h : ℕ) (d′ : List ℤ) : Type 0 where
+-- n events within the horizon h, and nothing else
+pub record Started (n h : ℕ) (d′ : List ℤ) : Type 0 where
   pub size : length d′ ≡ ENTRIES
-  pub start : (i j : ℕ) → i < STRIDE → j < STRIDE → at d′ i j ≡ horizonOnly h i j
+  pub start : (i j : ℕ) → i < n → j < n → at d′ i j ≡ horizonOnly h i j
 
 -- ---- one more bound: t(b) − t(a) ≤ w
 

@@ -5,7 +5,7 @@ ghost use lib.ListN.{length, getD};
 ghost use lib.IntN.{pos, _+ℤ_};
 ghost use Rattle.meaning.specs.Distances.{added, horizonOnly, earliest};
 ghost use Rattle.meaning.specs.Plan.{MOST-HORIZON};
-ghost use Rattle.distances.specs.Matrix.{STRIDE, at, meeting, Place, Starting, Started, Adding, Changed, Added, Narrowing, Narrowed, Timing};
+ghost use Rattle.distances.specs.Matrix.{STRIDE, at, meeting, Place, Starting, Started, Beside, Adding, Changed, Added, Narrowing, Narrowed, Timing};
 ghost use Rattle.distances.specs.Sweep.{Swept};
 ghost use Rattle.distances.specs.Rows.{Lowering, Copying, Inserting, lowered};
 
@@ -37,13 +37,23 @@ fn start_value(i: usize, j: usize, h: u32) -> i32
     widths::to_i32(widths::from_u32(h))
 }
 
-// The matrix of all timetables within the horizon h.
-pub fn start(d: &mut [i32], h: u32)
-    requires { ⌜ Starting h (now d) ⌝ }
-    ensures { λ _. ⌜ Started h (now (d .exit)) ⌝ }
+// Row i where only the horizon h is known.
+fn start_row(d: &mut [i32], i: usize, n: usize, h: u32)
+    requires { ⌜ Starting n h (now d) × (i < n) ⌝ }
+    ensures { λ _. ⌜ Swept (pos 0) (now (d .entry)) (now (d .exit)) (i * STRIDE) n (horizonOnly h i) ⌝ }
 {
-    for k in 0..ENTRIES {
-        d[k] = start_value(k / STRIDE, k % STRIDE, h);
+    for j in 0..n {
+        d[i * STRIDE + j] = start_value(i, j, h);
+    }
+}
+
+// The matrix of all timetables of n events within the horizon h.
+pub fn start(d: &mut [i32], n: usize, h: u32)
+    requires { ⌜ Starting n h (now d) ⌝ }
+    ensures { λ _. ⌜ Started n h (now (d .exit)) × Beside n (now (d .entry)) (now (d .exit)) ⌝ }
+{
+    for i in 0..n {
+        start_row(d, i, n, h);
     }
 }
 

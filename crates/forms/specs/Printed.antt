@@ -7,7 +7,7 @@ use Rattle.meaning.specs.Plan.{Record, rule, wish, Plan}
 use Rattle.meaning.specs.Bounds.{Bound}
 use Rattle.meaning.specs.Outcome.{Outcome, solved, none, refusal}
 use Rattle.meaning.specs.Known.{bytes}
-use Rattle.codes.specs.Codes.{named, stepNumbers}
+use Rattle.codes.specs.Codes.{named}
 use Rattle.print.specs.Lines.{line}
 
 -- `at`, event, time for each event from number e on
@@ -23,6 +23,9 @@ levelLines k (wish a b lo vs ∷ rs) [] = []
 levelLines k (wish a b lo vs ∷ rs) (l ∷ ls) = line (bytes "level") (pos k ∷ pos l ∷ []) ++ levelLines (suc k) rs ls
 
 -- `step`, from, to, weight, code
+abbrev pub stepNumbers : Bound → List ℤ
+stepNumbers b = pos (b .start) ∷ pos (b .end) ∷ b .weight ∷ pos (b .code) ∷ []
+
 abbrev pub stepLine : Bound → List ℕ
 stepLine b = line (bytes "step") (stepNumbers b)
 

@@ -11,8 +11,8 @@ ghost use Rattle.meaning.specs.Faultless.{WithoutFault};
 ghost use Rattle.meaning.specs.Known.{bytes};
 ghost use Rattle.plan.specs.Held.{Holds, InMemory};
 ghost use Rattle.print.specs.Lines.{line};
-ghost use Rattle.codes.specs.Codes.{numbersOf};
-ghost use Rattle.forms.specs.Printed.{atLines, levelLines, stepLines, printed};
+ghost use Rattle.codes.specs.Codes.{asBound};
+ghost use Rattle.forms.specs.Printed.{atLines, levelLines, stepLine, stepLines, printed};
 ghost use Rattle.forms.specs.Put.{LINE-ROOM, STEP-ROOM, AREA, Put};
 ghost use Rattle.forms.specs.Rows.{levelLine};
 ghost use Rattle.forms.specs.Timed.{Timed};
@@ -83,9 +83,14 @@ fn level_lines(out: &mut [u8], at: usize, h: Plan, levels: &[u8]) -> usize
 // The line of one step; the place after it.
 fn put_step(out: &mut [u8], at: usize, s: Step) -> usize
     requires { ⌜ at + STEP-ROOM ≤ length (now out) ⌝ }
-    ensures { λ r. ⌜ Put (now (out .entry)) (now (out .exit)) at r STEP-ROOM (line (bytes "step") (numbersOf s)) ⌝ }
+    ensures { λ r. ⌜ Put (now (out .entry)) (now (out .exit)) at r STEP-ROOM (stepLine (asBound s)) ⌝ }
 {
-    let row = [s.from, s.to, s.weight, s.code];
+    let row = [
+        widths::to_i64(widths::from_u16(s.from)),
+        widths::to_i64(widths::from_u16(s.to)),
+        s.weight,
+        widths::to_i64(widths::from_u16(s.code)),
+    ];
     print::put_line(out, at, b"step", &row)
 }
 

@@ -57,5 +57,5 @@ unfolding read split digitsOf numberOf lineForm lineStep peaked
 known-alone k m = row-alone k m (all-each rowTest table tt k m)
 
 -- no row is lost
-pub known-rows : length table ≡ 21
+pub known-rows : length table ≡ 23
 known-rows = refl

@@ -35,6 +35,8 @@ pub mod Stands
 pub mod Spans
 pub mod Walks
 pub mod Chains
+pub mod Sums
+pub mod Short
 pub mod Exists
 pub mod Solve
 pub mod Promises

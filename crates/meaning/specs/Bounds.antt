@@ -74,6 +74,10 @@ abbrev pub total : List Bound → ℤ
 total [] = pos 0
 total (b ∷ bs) = b .weight +ℤ total bs
 
+-- by how many ticks they fall short: what their weights lack to zero
+abbrev pub shortfall : List Bound → ℤ
+shortfall bs = negℤ (total bs)
+
 abbrev pub absent : ℕ → List ℕ → Bool
 absent x [] = true
 absent x (y ∷ ys) = not (eqb x y) && absent x ys

@@ -1,11 +1,11 @@
 -- The known plans of document 01, section 7: case 2 and the starred ones, 11 and 12, as one table of texts and outcomes, as T-04 leaves them: cases 3 and 4
--- have no timetable, and with every level one higher they, and case 5, show what they showed before.
+-- have no timetable, and with every level one higher they, and case 5, show what they showed before. And the limit of T-10, from both sides.
 use mathlib.Core.List.{List, [], _∷_}
-use Prim.Native.Nat.{ℕ}
+use Prim.Native.Nat.{ℕ, zero, suc}
 use Prim.Native.Char.{code}
 use Prim.Native.String as S
 use Prim.Native.String.{String}
-use lib.IntN.{pos}
+use lib.IntN.{ℤ, pos}
 use Rattle.meaning.specs.Outcome.{Outcome, solved, none, refusal}
 
 -- the bytes of a text of ASCII characters
@@ -37,6 +37,11 @@ CASE-7 = "events\t3\t10\nrule\t0\t1\t4\t10\nrule\t1\t2\t4\t10\nrule\t0\t2\t0\t7\
 abbrev pub CASE-8 : String
 CASE-8 = "events\t3\t10\nrule\t0\t1\t4\t10\nrule\t1\t2\t4\t10\nrule\t0\t2\t0\t8\n"
 
+-- the time 0 for each of so many events
+abbrev zeros : ℕ → List ℤ
+zeros zero = []
+zeros (suc n) = pos 0 ∷ zeros n
+
 abbrev pub table : List Known
 table =
     known "events\t1\t0\n" (solved (pos 0 ∷ []) [])
@@ -60,5 +65,7 @@ table =
     ∷ known "events\t2\t9\nrule\t1\t1\t4\t5\n" (refusal 5 2)
     ∷ known "events\t2\t9\nrule\t0\t1\t-0\t4\n" (refusal 2 2)
     ∷ known "events\t2\t9\nrule\t0\t1\t-100001\t4\n" (refusal 4 2)
+    ∷ known "events\t128\t0\n" (solved (zeros 128) [])
+    ∷ known "events\t129\t0\n" (refusal 4 1)
     ∷ known "" (refusal 2 1)
     ∷ []

@@ -7,6 +7,7 @@ pub mod Reading
 pub mod Bounds
 pub mod Ladder
 pub mod Outcome
+pub mod Short
 pub mod Known
 -- what it all comes to, for a caller
 pub mod Demands

@@ -10,7 +10,7 @@ use lib.Signed.{_≤ℤ_, nonNeg}
 -- ---- what is allowed: the table of section 1. The ends lo and hi lie between −MOST-END and MOST-END
 
 abbrev pub MOST-EVENTS : ℕ
-MOST-EVENTS = 64
+MOST-EVENTS = 128
 
 abbrev pub MOST-HORIZON : ℕ
 MOST-HORIZON = 100000

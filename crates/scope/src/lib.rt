@@ -1,7 +1,7 @@
 // The numbers of documents 01 and 02, each of them once. `meaning/specs` says the same numbers for the definitions; the proofs hold the two to each other.
 
 // What is allowed: section 1. The ends lo and hi lie between -MOST_END and MOST_END.
-pub const MOST_EVENTS: usize = 64;
+pub const MOST_EVENTS: usize = 128;
 
 pub const MOST_HORIZON: i32 = 100000;
 

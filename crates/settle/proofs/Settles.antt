@@ -35,9 +35,9 @@ abbrev pub lastPlace : Plan → ℕ
 lastPlace h = horizonPlace h + 2 * h .count
 
 module _ {p : M.Plan} {h : Plan} {held : List ℕ} {list : List Entry} (m : InMemory p h held) (s : Listed p list)
-    {d : List ℤ} (o : Started (h .horizon) d) where
-  begun : Started (p .horizon) d
-  begun = rw (m .holds .horizon) at o
+    {d : List ℤ} (o : Started (h .events) (h .horizon) d) where
+  begun : Started (p .events) (p .horizon) d
+  begun = rw (m .holds .events, m .holds .horizon) at o
 
   pub settle-trying : Trying list (horizonPlace h) (lastPlace h) (h .events) d
   settle-trying = rw (m .holds .events, m .holds .count) (start-trying (m .faultless) s begun)

@@ -56,7 +56,7 @@ pub fn settle(
     let all = base + 2 * h.count;
     let list = bounds::list_of(h, held);
     let mut d = [0; ENTRIES];
-    distances::start(&mut d, h.horizon);
+    distances::start(&mut d, n, h.horizon);
     let m = bounds::try_all(list, base, all, &mut d, n);
     if m < all {
         return Outcome::NoTimetable(chain::chain_of(list, m, &d, chain));

@@ -6,6 +6,7 @@ use Prim.Native.Nat.{ℕ, zero, suc, _≤_}
 use native.Mathlib.Omega.{arith}
 use Rattle.meaning.specs.Plan as M
 use Rattle.meaning.specs.Reading.{plan, refused, read}
+use Rattle.meaning.specs.Short.{ShortBy, ShortIn}
 use Rattle.meaning.specs.Numbers.{WRONG-FORM, AREA-TOO-SHORT}
 use Rattle.meaning.specs.Outcome as O
 use Rattle.meaning.specs.Outcome.{Areas, longEnough, heard}
@@ -63,3 +64,11 @@ module _ {text held : List ℕ} {a : Answer} (r : ReadInto text held a) where
   read-memory e =
       let v = read-held (r .read) (r .room) in
       record { holds = read-holds (r .read) (r .room); faultless = read-faultless text e; room = omega (arith, v .long, r .room); levels = v .done }
+
+-- ---- by how many ticks codes fall short in the text
+
+pub plan-short : (text : List ℕ) {codes : List ℕ} {p : M.Plan} {s : ℕ} → read text ≡ plan p → ShortBy p codes s → ShortIn (read text) codes s
+plan-short text e h = rw e h
+
+pub fault-short : (text : List ℕ) (codes : List ℕ) {k line : ℕ} → read text ≡ refused k line → ShortIn (read text) codes 0
+fault-short text codes e = rw e refl

@@ -9,11 +9,14 @@ use Rattle.meaning.specs.Plan.{Plan, Times, Timetable}
 use Rattle.meaning.specs.Bounds.{Chain}
 use Rattle.meaning.specs.Outcome.{number, place, Areas, longEnough}
 use Rattle.meaning.specs.Numbers.{SOLVED, NO-TIMETABLE, WRONG-FORM}
+use Rattle.meaning.specs.Reading.{read}
+use Rattle.meaning.specs.Short.{ShortIn}
 use Rattle.meaning.specs.Known.{Known, bytes, table}
 use Rattle.meaning.specs.Demands.{Call, OnPlan, codes, Demand1, Demand2, Demand3, Optimal, Agree, Ended}
 use Rattle.meaning.proofs.Promises.{one-promise}
 use Rattle.meaning.proofs.Demands.{demand-1, demand-2, demand-3, optimal}
 use Rattle.meaning.proofs.Idle.{known-plans, refuses-no-plan, counts-steps}
+use Rattle.meaning.proofs.Short.{none-short}
 use Rattle.reader.specs.declared.Answer.{Answer}
 use Rattle.settle.specs.declared.Outcome.{Outcome as Found}
 use Rattle.settle.specs.Settled.{numberOf, placeOf, named}
@@ -71,6 +74,10 @@ module _ (text : List ℕ) (before after : Areas) (r : Found) (s : Solves text b
     -- the steps are those of a chain, 2 to n
     pub solve-counts-steps : numberOf r ≡ NO-TIMETABLE → (2 ≤ placeOf r) × (placeOf r ≤ p .events) × Chain p (codes call)
     solve-counts-steps = counts-steps call p h (s .promise)
+
+    -- and what `timetable_ticks_short` says of them is 1 or more
+    pub solve-falls-short : numberOf r ≡ NO-TIMETABLE → {ticks : ℕ} → ShortIn (read text) (codes call) ticks → 1 ≤ ticks
+    solve-falls-short e f = none-short call (s .promise) e p h (rw (h .reads) at f)
 
   -- a known plan ends as the table says, its chain too
   pub solve-known : (k : Known) → List·Memᴰ k table → text ≡ bytes (k .text) → longEnough before ≡ true →

@@ -1,9 +1,11 @@
-// The entry point with the promise: a text is read, and its plan is settled.
+// The entry points with the promise: a text is read, and its plan is settled; or the codes of a chain are looked at.
 ghost use mathlib.Core.Path.{_≡_};
 ghost use mathlib.Core.Bool.{true};
 ghost use mathlib.Core.List.{List};
 ghost use Prim.Native.Nat.{ℕ};
 ghost use Rattle.meaning.specs.Outcome.{Promise, areas, longEnough};
+ghost use Rattle.meaning.specs.Reading.{read};
+ghost use Rattle.meaning.specs.Short.{ShortIn};
 ghost use Rattle.solver.specs.Solves.{ReadInto, Solves};
 use reader::Answer;
 use reader::Verdict;
@@ -72,4 +74,18 @@ pub extern "C" fn timetable_solve(
     let outcome = solve(text, times, levels, chain);
     *place = settle::place_in(outcome);
     settle::number_of(outcome)
+}
+
+// By how many ticks a chain falls short in the plan of a text; 0 where the text is refused, or the codes are no chain of its plan.
+#[no_mangle]
+pub extern "C" fn timetable_ticks_short(text: &[u8], chain: &[u16]) -> u64
+    ensures { λ r. ⌜ ShortIn (read (now (text .entry))) (now (chain .entry)) r ⌝ }
+{
+    let mut held = [0u8; scope::MOST_LEVELS_TOGETHER];
+    let answer = reader::read(text, &mut held);
+    let verdict = answer.verdict;
+    match verdict {
+        Verdict::Taken => shortfall::ticks_short(answer.plan, &held, chain),
+        Verdict::Refused(_, _) => 0,
+    }
 }

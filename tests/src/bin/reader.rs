@@ -62,7 +62,7 @@ fn small_texts() -> Vec<Vec<u8>> {
     vec![
         Plan::new(1, 0).text(),
         Plan::new(4, 20).with(records.clone()).text(),
-        Plan::new(64, 100_000).with(records[2..].to_vec()).text(),
+        Plan::new(128, 100_000).with(records[2..].to_vec()).text(),
         Plan::new(5, 9).with([Record::wish(1, 0, 99_990, vec![7; 11]), Record::rule(4, 3, -1, 0)]).text(),
     ]
 }

@@ -1,9 +1,9 @@
 //! The proved solver (static library `solver`).
 
 /// The least lengths of the three lent areas.
-pub const TIMES_AREA: usize = 64;
+pub const TIMES_AREA: usize = 128;
 pub const LEVELS_AREA: usize = 256;
-pub const CHAIN_AREA: usize = 64;
+pub const CHAIN_AREA: usize = 128;
 
 #[link(name = "solver", kind = "static")]
 extern "C" {
@@ -18,6 +18,7 @@ extern "C" {
         nc: usize,
         place: *mut usize,
     ) -> u8;
+    fn timetable_ticks_short(text: *const u8, n: usize, chain: *const u16, steps: usize) -> u64;
 }
 
 /// The number and the place of the outcome; the rest of it is in the areas.
@@ -37,4 +38,9 @@ pub fn solve(text: &[u8], times: &mut [i64], levels: &mut [u8], chain: &mut [u16
         )
     };
     (number, place)
+}
+
+/// By how many ticks the chain falls short; 0 where it is none of this text.
+pub fn ticks_short(text: &[u8], chain: &[u16]) -> u64 {
+    unsafe { timetable_ticks_short(text.as_ptr(), text.len(), chain.as_ptr(), chain.len()) }
 }

@@ -5,9 +5,10 @@ use mathlib.Core.Bool.{false}
 use mathlib.Core.List.{List}
 use Prim.Native.Nat.{_-_, _<_}
 use native.Mathlib.Omega.{arith}
-use lib.Count.{ones, ones-le}
+use lib.Count.{ones}
 use Rattle.eventset.specs.Sets.{WIDTH, bitsOf, member}
 use Rattle.eventset.proofs.Laws.{count-fresh}
+use Rattle.eventset.proofs.Words.{at-most}
 use Rattle.meaning.specs.Plan.{MOST-EVENTS}
 use Rattle.meaning.specs.Bounds.{Bound}
 use Rattle.chain.specs.Marks.{Path}
@@ -64,12 +65,12 @@ from-u16-requires c κs = tt
 loop-less : tie.Need-loop-less Inv-loop μ-loop
 loop-less c =
     let p = c .before .before in
-    -- `.ok` has the range of the set's number
+    -- `.ok` has the ranges of the set's words
     omega (
       arith,
       ap ones (p .put .ensures),
       count-fresh _ _ (fresh (p .before)),
-      ones-le WIDTH (bitsOf (p .put .result)) (p .put .ok .1 .1 .0 .1),
+      at-most (p .put .result) (p .put .ok .1 .1 .0 .1) (p .put .ok .1 .1 .1 .0 .1),
     )
 
 loop-again : tie.Need-loop-again Inv-loop μ-loop

@@ -4,9 +4,10 @@ use mathlib.Core.Path.{_≡_, refl, sym, ap, _∙_}
 use Prim.Native.Nat.{ℕ, _-_}
 use native.Mathlib.Omega.{arith}
 use lib.ListN.{length}
-use lib.Count.{ones, ones-le}
+use lib.Count.{ones}
 use Rattle.eventset.specs.Sets.{WIDTH, bitsOf, putIn}
 use Rattle.eventset.proofs.Laws.{one-member}
+use Rattle.eventset.proofs.Words.{at-most}
 use Rattle.chain.specs.Marks.{Notes, Marks, same}
 use Rattle.chain.proofs.Limits.{low, fits}
 use Rattle.chain.proofs.Marks.{marks-keep, marks-then, marks-untouched, progress}
@@ -54,11 +55,11 @@ loop-less c =
     let l = q .before .before in
     let r = s .scan-listed in
     let unmarked = sym (q .before .has .ensures) ∙ not-true _ (q .if1 .taken) in
-    -- `.ok` has the range of the set's number
+    -- `.ok` has the ranges of the set's words
     omega (
       arith,
       progress _ _ _ _ _ (r .ensures) (start l .pre .lead) (marks-keep _ _ _ _ _ (l .loop .inv .0) (one-member _)) unmarked,
-      ones-le WIDTH (bitsOf (r .result)) (r .ok .1 .1 .0 .1),
+      at-most (r .result) (r .ok .1 .1 .0 .1) (r .ok .1 .1 .1 .0 .1),
     )
 
 loop-again : tie.Need-loop-again Inv-loop μ-loop

@@ -7,7 +7,6 @@ use Rattle.plan.specs.Held.{rowOf}
 use Rattle.plan.proofs.Use.{rowAt, held-row}
 use Rattle.cut.specs.Cut.{allowed}
 use Rattle.cut.proofs.Cuts.{cutting, ends-are}
-use Rattle.codes.specs.Codes.{stepNumbers}
 use Rattle.codes.proofs.Names.{name-record, name-horizon}
 use Rattle.codes.proofs.step_of.Statement.{statement}
 use Rattle.codes.proofs.step_of.Tie as tie
@@ -37,7 +36,7 @@ returns c =
     λ p o.
     let row = held-row (o .holds) k ∙ ap (λ (i : ℕ). rowOf (rowAt (args .t1) k .first) (recordAt p i)) (cast .from-u16 .ensures) in
     let own = ends .ends-of .ensures ∙ ends-are o k ∙ ap (λ (i : ℕ). allowed (recordAt p i)) (cast .from-u16 .ensures) in
-    c .of-record .ensures p _ row own ∙ sym (ap stepNumbers (name-record p (args .c) (test .if1 .taken)))
+    c .of-record .ensures p _ row own ∙ sym (name-record p (args .c) (test .if1 .taken))
 
 of-horizon-requires : tie.Need-of-horizon-requires
 of-horizon-requires c κs = search needs
@@ -45,7 +44,7 @@ of-horizon-requires c κs = search needs
 returns-2 : tie.Need-returns-2
 returns-2 c =
     let test = c .before in
-    λ p o. c .of-horizon .ensures p (o .holds .horizon) ∙ sym (ap stepNumbers (name-horizon p (test .before .before .args .c) (test .if1 .left)))
+    λ p o. c .of-horizon .ensures p (o .holds .horizon) ∙ sym (name-horizon p (test .before .before .args .c) (test .if1 .left))
 
 pub step-of-spec : {M : Type 1} → statement M
 step-of-spec =

@@ -1,47 +1,39 @@
--- `distances::start` meets its contract: the entries so far are swept with the start values of their places.
-use Prim.Native.Nat.{_-_, _/_, _%_, _≤_}
+-- `distances::start` meets its contract: the rows so far hold the start values.
+use Prim.Native.Nat.{_-_, _≤_}
 use mathlib.Core.Path.{_∙_}
 use native.Mathlib.Omega.{arith}
-use lib.IntN.{pos}
 use Rattle.meaning.specs.Distances.{horizonOnly}
-use Rattle.distances.specs.Matrix.{STRIDE, ENTRIES}
-use Rattle.distances.specs.Sweep.{Swept}
-use mir.Syntax.{w32}
-use Rattle.ticks.proofs.Ticks.{back}
-use Rattle.distances.proofs.Sweep.{swept-none, swept-more, swept-all}
-use Rattle.distances.proofs.Rows.{by-rows}
+use Rattle.distances.specs.Matrix.{Changed}
+use Rattle.distances.proofs.Rows.{rows-none, rows-more, rows-all, changed-beside}
 use Rattle.distances.proofs.start.Statement.{statement}
 use Rattle.distances.proofs.start.Tie as tie
 
 abbrev Inv-loop : tie.InvT-loop
-Inv-loop d₀ h k₀ d k = (k ≤ ENTRIES) × Swept (pos 0) d₀ d 0 k (λ m. horizonOnly h (m / STRIDE) (m % STRIDE))
+Inv-loop d₀ n h i₀ d i = (i ≤ n) × Changed i n d₀ d (horizonOnly h)
 
 abbrev μ-loop : tie.MeasureT-loop
-μ-loop d₀ h k₀ d k = ENTRIES - k
+μ-loop d₀ n h i₀ d i = n - i
 
 loop-holds : tie.Need-loop-holds Inv-loop μ-loop
-loop-holds c = (omega arith, swept-none)
+loop-holds c = (omega arith, rows-none)
 
-start-value-requires : tie.Need-start-value-requires Inv-loop μ-loop
-start-value-requires c κs = omega arith
+start-row-requires : tie.Need-start-row-requires Inv-loop μ-loop
+start-row-requires c κs =
+    let turn = c .before in
+    let asked = turn .before .before .pre in
+    (record { size = turn .before .loop .inv .1 .long ∙ asked .size; events = asked .events; near = asked .near }, turn .loop-test .taken)
 
-mul-t8 : tie.Need-mul-t8 Inv-loop μ-loop
-mul-t8 c = omega arith
-
-slice-set-from-d : tie.Need-slice-set-from-d Inv-loop μ-loop
-slice-set-from-d c = omega arith
-
-add-k : tie.Need-add-k Inv-loop μ-loop
-add-k c = omega arith
+add-i : tie.Need-add-i Inv-loop μ-loop
+add-i c = omega arith
 
 loop-less : tie.Need-loop-less Inv-loop μ-loop
 loop-less c = omega arith
 
 loop-again : tie.Need-loop-again Inv-loop μ-loop
 loop-again c =
-    let v = c .start-value in
-    let l = c .before .before .loop in
-    (omega arith, swept-more (l .k) _ (l .inv .1) (omega arith) (omega arith) (back w32 (v .result) (v .ok) ∙ v .ensures))
+    let turn = c .before .before .before in
+    let l = turn .before in
+    (omega arith, rows-more (l .before .pre .events) (l .loop .inv .1) (c .before .start-row .ensures))
 
 same-length : tie.Need-same-length Inv-loop μ-loop
 same-length c = c .before .loop .inv .1 .long
@@ -49,21 +41,8 @@ same-length c = c .before .loop .inv .1 .long
 returns : tie.Need-returns Inv-loop μ-loop
 returns c =
     let l = c .before .loop in
-    let s = c .before .before in
-    record { size = l .inv .1 .long ∙ s .pre .size; start = by-rows (horizonOnly (s .args .h)) (swept-all (l .inv .1) (l .inv .0) (omega arith)) }
+    let all = rows-all (l .inv .1) (l .inv .0) (omega arith) in
+    (record { size = all .long ∙ c .before .before .pre .size; start = all .done }, changed-beside all)
 
 pub start-spec : {M : Type 1} → statement M
-start-spec =
-    tie.close
-    (tie.spec
-    Inv-loop
-    μ-loop
-    loop-holds
-    start-value-requires
-    mul-t8
-    slice-set-from-d
-    add-k
-    loop-less
-    loop-again
-    same-length
-    returns)
+start-spec = tie.close (tie.spec Inv-loop μ-loop loop-holds start-row-requires add-i loop-less loop-again same-length returns)

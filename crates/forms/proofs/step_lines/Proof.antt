@@ -6,11 +6,9 @@ use native.Mathlib.Omega.{arith}
 use borrow.Author.Needs.{needs}
 use lib.ListN.{take, drop}
 use Rattle.meaning.specs.Plan as M
-use Rattle.meaning.specs.Known.{bytes}
 use Rattle.plan.specs.Held.{InMemory}
-use Rattle.print.specs.Lines.{line}
 use Rattle.forms.specs.Put.{STEP-ROOM}
-use Rattle.forms.specs.Printed.{stepLines}
+use Rattle.forms.specs.Printed.{stepLine, stepLines}
 use Rattle.forms.proofs.Puts.{put-as, Printing, printing-start, printing-then, printing-end}
 use Rattle.forms.proofs.Rests.{steps-more, left-none}
 use Rattle.forms.proofs.step_lines.Statement.{statement}
@@ -87,7 +85,7 @@ further c p q =
     let i = l .loop .i in
     let more = steps-more p (s .args .chain .now) (s .args .steps) i (s .pre .1) (step c) in
     printing-then (l .loop .inv .1 p q) (STEP-ROOM * (i + 1)) (omega arith) more
-    (put-as (put .put-step .ensures) (ap (line (bytes "step")) (put .before .step-of .ensures p q)))
+    (put-as (put .put-step .ensures) (ap stepLine (put .before .step-of .ensures p q)))
 
 loop-again : tie.Need-loop-again Inv-loop μ-loop
 loop-again c = (omega (arith, step c), further c)

@@ -50,7 +50,7 @@ ready : (c : tie.Else1) (p : M.Plan) → Memory (begun (all-tried c)) p →
     Ready p (args .h) (args .held .now) (all-tried c .try-all .last .1 .1 .1 .0)
 ready c p m =
     let t = all-tried c in
-    settle-ready m (list-holds (begun t) p m) (begun t .start .ensures) (t .try-all .ensures) (c .if1 .left)
+    settle-ready m (list-holds (begun t) p m) (begun t .start .ensures .0) (t .try-all .ensures) (c .if1 .left)
 
 -- ---- the bounds
 
@@ -82,7 +82,7 @@ try-all-requires : tie.Need-try-all-requires
 try-all-requires c κs =
     let b = c .before .before in
     let s = start (listed b) .pre in
-    settle-trying (s .memory) (list-holds b (s .plan) (s .memory)) (b .start .ensures)
+    settle-trying (s .memory) (list-holds b (s .plan) (s .memory)) (b .start .ensures .0)
 
 -- ---- a chain
 
@@ -95,7 +95,7 @@ chain-of-requires c κs =
     let t = tried test in
     let b = begun t in
     let s = start (listed b) .pre in
-    let broken = settle-broken (s .memory) (list-holds b (s .plan) (s .memory)) (b .start .ensures) (t .try-all .ensures) (test .if1 .taken) in
+    let broken = settle-broken (s .memory) (list-holds b (s .plan) (s .memory)) (b .start .ensures .0) (t .try-all .ensures) (test .if1 .taken) in
     ((s .plan .events, broken), s .chain-long)
 
 same-length : tie.Need-same-length
@@ -106,7 +106,7 @@ returns c = λ p m.
     let at-chain = c .before .before in
     let test = at-chain .before .before .before in
     let b = begun (tried test) in
-    chained-settled _ _ (settle-chained m (list-holds b p m) (b .start .ensures) (test .if1 .taken) (at-chain .chain-of .ensures))
+    chained-settled _ _ (settle-chained m (list-holds b p m) (b .start .ensures .0) (test .if1 .taken) (at-chain .chain-of .ensures))
 
 -- ---- times and levels
 

@@ -52,7 +52,13 @@ pub fn compare_with(text: &[u8], lengths: Lengths) -> Result<Outcome, String> {
     same_entries("times area with its guards", &old_times(lengths).with_front(&times), given.times.all())?;
     same_entries("levels area with its guards", &old_levels(lengths).with_front(&levels), given.levels.all())?;
     same_entries("chain area with its guards", &old_chain(lengths).with_front(&chain), given.chain.all())?;
+    same("ticks short", ticks_short(text, &chain), library::ticks_short(text, &chain))?;
     Ok(outcome)
+}
+
+/// By how many ticks these codes fall short; 0 where they are no chain.
+pub fn ticks_short(text: &[u8], chain: &[u16]) -> u64 {
+    read(text).map_or(0, |plan| check_chain(&plan, chain).unwrap_or(0))
 }
 
 fn call(text: &[u8], lengths: Lengths) -> Result<Given, String> {

@@ -22,15 +22,15 @@ pub fn compile(name: &str, words: &[&str]) -> Result<PathBuf, String> {
 
 pub fn c_program() -> Result<Program, String> {
     let words = ["-std=c99", "-Iinclude", "examples/solve.c", "target/staticlib/libsolver.a"];
-    Ok(Program { path: compile("solve-example", &words)?, has_status: true })
+    Ok(Program { path: compile("solve-example", &words)?, is_example: true })
 }
 
 /// The example plans as standard input and as files; then files that cannot be read.
 pub fn plans(group: &mut Group, program: &Program) {
-    for name in ["update", "clash"] {
+    for (name, last_line) in [("update", ""), ("clash", "5 ticks short\n")] {
         let path = root().join(format!("examples/{name}.plan"));
         let plan = example_text(name);
-        let wanted = std::fs::read_to_string(path.with_extension("out")).unwrap_or_default();
+        let wanted = std::fs::read_to_string(path.with_extension("out")).unwrap_or_default() + last_line;
         for given in [run_on(program.command(), &plan), named(program, &path)] {
             group.case(&plan, given.and_then(|given| program.printed(&wanted, &given)));
         }

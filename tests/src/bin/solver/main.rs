@@ -1,5 +1,6 @@
 //! The proved solver, the program `timetable` and the C example against the plain reader, the second solver and exhaustive
 //! search.
+mod chains;
 mod compare;
 mod example;
 mod input;
@@ -37,8 +38,9 @@ fn main() -> ExitCode {
     tally.group("random plans", |group| random_plans(group, 6_000));
     tally.group("random full plans", |group| full_plans(group, 150));
     tally.group("paths through all events", paths);
+    tally.group("chains, changed and whole", |group| chains::changed_chains(group, 2_000));
     tally.group("damaged texts", |group| damaged_texts(group, 8_000));
-    tally.group("full plans in a thread with a stack of 64 KB", stack::small_stack);
+    tally.group("full plans in a thread with a stack of 128 KB", stack::small_stack);
     the_program(&mut tally);
     the_example(&mut tally);
     tally.group("the script examples/run", script::script);
@@ -112,10 +114,10 @@ fn all_lengths() -> Vec<Lengths> {
     all
 }
 
-/// 64 events, 256 records, nearly all of them wishes; `moved` of a thousand are out of place.
+/// 128 events, 256 records, nearly all of them wishes; `moved` of a thousand are out of place.
 fn full_plan_with(moved: usize) -> Vec<u8> {
     let shape = Shape {
-        events: 64,
+        events: 128,
         horizon: 5_000,
         records: 256,
         wishes: 95,
@@ -184,7 +186,7 @@ fn full_plans(group: &mut Group, count: usize) {
 /// The longest chains and the slowest spreading of delays: one tick too few, just enough, some to share out.
 fn paths(group: &mut Group) {
     let mut chance = Chance::new(15);
-    for events in 2..=64 {
+    for events in 2..=128 {
         for room in [-1, -1, 0, 0, 5, 40] {
             plan_case(group, &generate::path(&mut chance, events, room));
         }

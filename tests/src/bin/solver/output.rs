@@ -2,7 +2,7 @@
 use crate::full_plan;
 use crate::input::example_text;
 use crate::process::{described, never_wait, run, run_on, Given};
-use crate::program::{root, wanted, Program, EXEC};
+use crate::program::{root, Program, EXEC};
 use outside::tally::{same, Group};
 use std::fs::{File, OpenOptions};
 use std::io::Write;
@@ -63,7 +63,7 @@ fn cut_off(program: &Program, text: &[u8]) -> Result<String, String> {
     command.stdout(File::create(&path).map_err(described)?);
     let given = run_on(command, text)?;
     let written = std::fs::read_to_string(&path).map_err(described)?;
-    same("the file", &wanted(text, "")?[..MOST_SIZE], &written)?;
+    same("the file", &program.wanted(text, "")?[..MOST_SIZE], &written)?;
     program.failure(OUTPUT, "File too large", &given)
 }
 

@@ -9,7 +9,7 @@ use outside::tally::{same, Group};
 use std::process::{Command, ExitCode};
 
 const WORD: &str = "stack";
-const KILOBYTES: usize = 64;
+const KILOBYTES: usize = 128;
 
 /// The kinds of plans that are tried.
 const KINDS: [&str; 2] = ["solved", "none"];
@@ -63,7 +63,8 @@ pub fn solve(kind: &str, kilobytes: usize) -> ExitCode {
 /// outcome is checked outside.
 fn solve_in_thread(text: Vec<u8>, kilobytes: usize) -> Result<(), String> {
     let lent_text = text.clone();
-    let (mut times, mut levels, mut chain) = (vec![0; 64], vec![0; 256], vec![0; 64]);
+    let (mut times, mut levels, mut chain) =
+        (vec![0; library::TIMES_AREA], vec![0; library::LEVELS_AREA], vec![0; library::CHAIN_AREA]);
     let work = move || (library::solve(&lent_text, &mut times, &mut levels, &mut chain), times, levels, chain);
     let thread = std::thread::Builder::new().stack_size(kilobytes * 1024).spawn(work);
     let ended = thread.map_err(|error| error.to_string())?.join();
@@ -77,7 +78,7 @@ fn solve_in_thread(text: Vec<u8>, kilobytes: usize) -> Result<(), String> {
         }
         None => {
             same("number", 1, number)?;
-            check_chain(&plan, &chain[..place])
+            check_chain(&plan, &chain[..place]).map(|_| ())
         }
     }
 }

@@ -1,0 +1,2 @@
+-- What it is to lead round.
+pub mod Round
