@@ -82,6 +82,13 @@ module _ (p : Plan) where
   pub given-horizon-lower : (e : ℕ) → 1 ≤ e → e < p .events → Given p (horizonLower e)
   given-horizon-lower e h l = Memᴰ·append-right (recordBounds 0 (p .records)) (given-event (p .horizon) 1 (p .events - 1) e h (omega arith) .1)
 
+-- ---- the codes: 767 is the last, the lower bound of event 127
+
+pub last-code : (p : Plan) → WithoutFault p → (b : Bound) → Given p b → b .code ≤ 767
+last-code p w = each-bound p (λ b. b .code ≤ 767)
+    (λ k h. (omega (arith, h, w .few), omega (arith, h, w .few)))
+    (λ e h l. (omega (arith, l, w .most), omega (arith, l, w .most)))
+
 -- ---- a code names one bound: those of the records lie below HORIZON-CODES, those of the horizon from there on
 
 -- two bounds with one code are one

@@ -3,10 +3,11 @@
 use crate::compare::ticks_short;
 use outside::bounds::bounds;
 use outside::chance::Chance;
-use outside::generate;
 use outside::library::solver as library;
 use outside::plan::Plan;
+use outside::reader::read;
 use outside::tally::{same, Group};
+use outside::{generate, known};
 
 /// More codes than any chain has.
 const MANY: usize = 200;
@@ -25,6 +26,35 @@ pub fn changed_chains(group: &mut Group, count: usize) {
             group.case(&text, case(&text, &codes));
         }
     }
+}
+
+/// Every row of up to three codes of the small known plans, and of codes that no bound of theirs has.
+pub fn every_short_row(group: &mut Group) {
+    for (text, _) in known::cases() {
+        let Ok(plan) = read(&text) else { continue };
+        if plan.events > 4 {
+            continue;
+        }
+        let unknown = [2 * plan.records.len() as u16, 511, 512, 513, 512 + 2 * plan.events as u16];
+        let codes: Vec<u16> = bounds(&plan).iter().map(|bound| bound.code).chain(unknown).collect();
+        for row in rows(&codes, 3) {
+            group.case(&text, case(&text, &row));
+        }
+    }
+}
+
+/// All rows of up to so many of these.
+fn rows(codes: &[u16], longest: usize) -> Vec<Vec<u16>> {
+    let mut all = vec![vec![]];
+    let mut first = 0;
+    for _ in 0..longest {
+        let last = all.len();
+        for row in first..last {
+            all.extend(codes.iter().map(|&code| [&all[row][..], &[code]].concat()).collect::<Vec<_>>());
+        }
+        first = last;
+    }
+    all
 }
 
 /// The chain of a plan that has no timetable, else no codes.

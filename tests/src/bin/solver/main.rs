@@ -39,6 +39,7 @@ fn main() -> ExitCode {
     tally.group("random full plans", |group| full_plans(group, 150));
     tally.group("paths through all events", paths);
     tally.group("chains, changed and whole", |group| chains::changed_chains(group, 2_000));
+    tally.group("all short rows of codes", chains::every_short_row);
     tally.group("damaged texts", |group| damaged_texts(group, 8_000));
     tally.group("full plans in a thread with a stack of 128 KB", stack::small_stack);
     the_program(&mut tally);
