@@ -8,11 +8,11 @@ use native.Mathlib.Omega.{arith}
 use lib.ListN.{length, getD, drop}
 use lib.IntN.{ℤ, pos, negsuc, negℤ, _+ℤ_, _-ℤ_}
 use lib.Signed.{_≤ℤ_}
-use Rattle.ticks.proofs.Ticks.{ticks, up, sum, neg}
+use Rattle.ticks.proofs.Ticks.{ticks, sum, neg}
 use Rattle.meaning.specs.Plan.{rule, Plan, recordAt, Times, Timetable}
 use Rattle.meaning.specs.Peak.{peaked}
 use Rattle.meaning.specs.Bounds.{Bound, Holds, upper, lower, Leads, stop, step, total, shortfall, Chain}
-use Rattle.meaning.specs.Short.{ShortBy, ShortIn}
+use Rattle.meaning.specs.Short.{ShortBy, ShortIn, above, missedBy, missedTogether}
 use Rattle.meaning.specs.Reading.{Reading, plan, refused, read, split, digitsOf, numberOf, lineForm, lineStep}
 use Rattle.meaning.specs.Known.{bytes, CASE-7}
 use Rattle.meaning.specs.Demands.{Call, Kept, OnPlan, codes}
@@ -23,15 +23,6 @@ use Rattle.meaning.proofs.ReadGood.{read-faultless}
 use Rattle.meaning.proofs.ChainTest.{chain-right}
 use Rattle.meaning.proofs.WrongChains.{Wrong, wrongs, wrong-chains}
 use Rattle.meaning.proofs.Demands.{none-call}
-
--- the ticks by which the times miss a bound; 0 where they keep it
-abbrev pub missedBy : Times → Bound → ℤ
-missedBy t b = pos (up (t (b .end) -ℤ t (b .start) -ℤ b .weight))
-
--- the ticks by which they miss the bounds together
-abbrev pub excess : Times → List Bound → ℤ
-excess t [] = pos 0
-excess t (b ∷ bs) = missedBy t b +ℤ excess t bs
 
 -- ---- the number
 
@@ -61,30 +52,34 @@ none-short c k e p o h = chain-short (none-call c p o k e) h
 -- ---- what any times miss
 
 -- none where they keep the bound
-pub kept-none : (t : Times) (b : Bound) → Holds t b → missedBy t b ≡ pos 0
+pub kept-none : (t : Times) (b : Bound) → Holds t b → missedBy t b ≡ 0
 kept-none t b h =
     let d = t (b .end) -ℤ t (b .start) in
-    ap pos (none (d -ℤ b .weight) (omega (ticks, h, sum (t (b .end)) (negℤ (t (b .start))), neg (t (b .start)))))
+    none (d -ℤ b .weight) (omega (ticks, h, sum (t (b .end)) (negℤ (t (b .start))), neg (t (b .start)), sum d (negℤ (b .weight)), neg (b .weight)))
   where
-    none : (z : ℤ) → z ≤ℤ pos 0 → up z ≡ 0
+    none : (z : ℤ) → z ≤ℤ pos 0 → above z ≡ 0
     none (pos n) l = omega ticks
     none (negsuc n) l = refl
 
 -- that much more weight, and they would keep it
-missed-enough : (t : Times) (b : Bound) → t (b .end) ≤ℤ (t (b .start) +ℤ b .weight +ℤ missedBy t b)
+missed-enough : (t : Times) (b : Bound) → t (b .end) ≤ℤ (t (b .start) +ℤ b .weight +ℤ pos (missedBy t b))
 missed-enough t b =
     let d = t (b .end) -ℤ t (b .start) in
-    omega (ticks, sum (t (b .end)) (negℤ (t (b .start))), neg (t (b .start)), sum d (negℤ (b .weight)), neg (b .weight))
+    omega (ticks, enough (d -ℤ b .weight), sum (t (b .end)) (negℤ (t (b .start))), neg (t (b .start)), sum d (negℤ (b .weight)), neg (b .weight))
+  where
+    enough : (z : ℤ) → z ≤ℤ pos (above z)
+    enough (pos n) = omega ticks
+    enough (negsuc n) = omega ticks
 
 -- the same of the bounds on the way
-pub telescope-missed : (t : Times) {i j : ℕ} {bs : List Bound} → Leads i bs j → t j ≤ℤ (t i +ℤ total bs +ℤ excess t bs)
+pub telescope-missed : (t : Times) {i j : ℕ} {bs : List Bound} → Leads i bs j → t j ≤ℤ (t i +ℤ total bs +ℤ pos (missedTogether t bs))
 telescope-missed t {i} stop = omega ticks
 telescope-missed t {j = j} (step {b = b} {bs = bs} l) =
-    omega (ticks, missed-enough t b, telescope-missed t l, sum (b .weight) (total bs), sum (missedBy t b) (excess t bs))
+    omega (ticks, missed-enough t b, telescope-missed t l, sum (b .weight) (total bs))
 
 -- whatever the times, the bounds of a chain are missed by its shortfall together at least
-pub missed : (t : Times) {p : Plan} {cs : List ℕ} (c : Chain p cs) → shortfall (c .steps) ≤ℤ excess t (c .steps)
-missed t c = omega (ticks, telescope-missed t (c .closed))
+pub missed : (t : Times) {p : Plan} {cs : List ℕ} {s : ℕ} → ShortBy p cs s → (c : Chain p cs) → s ≤ missedTogether t (c .steps)
+missed t h c = omega (ticks, h .lacks c, neg (total (c .steps)), telescope-missed t (c .closed))
 
 -- ---- one chain tells it, or none
 

@@ -21,7 +21,7 @@ goesOn p from at seen (c ∷ cs) =
     let b = named p c in
     isCode (p .events) (length (p .records)) c && (mayStep from at seen b && goesOn p from (b .end) (putIn seen (b .end)) cs)
 
--- from where the first code begins
+-- from where the first code begins; no codes lead nowhere, and so round
 abbrev pub leadsRound : Plan → List ℕ → Bool
 leadsRound p [] = true
 leadsRound p (c ∷ cs) = let from = named p c .start in goesOn p from from 0 (c ∷ cs)
