@@ -18,7 +18,7 @@ use Rattle.plan.specs.declared.Plan.{Plan}
 use Rattle.plan.specs.Held.{rowOf}
 use Rattle.cut.specs.declared.Ends.{Ends}
 use Rattle.cut.specs.Cut.{allowed}
-use Rattle.codes.specs.Codes.{named, isCode, ofRecord, ofHorizon}
+use Rattle.codes.specs.Codes.{named, isCode, hasCode, ofRecord, ofHorizon}
 
 -- ---- a code and the record or the event that it names
 
@@ -107,7 +107,7 @@ module _ (p : M.Plan) (c : ℕ) where
       at false q = (given-horizon-lower p _ some few, omega (arith, low, eqb-false (c % 2) 0 q))
 
   -- such a code names a bound of the plan
-  pub code-named : isCode (p .events) (length (p .records)) c ≡ true → Has p c (named p c)
+  pub code-named : hasCode p c ≡ true → Has p c (named p c)
   unfolding isCode
   code-named h = at (ltb c HORIZON-CODES) refl h
     where
@@ -122,7 +122,7 @@ module _ (p : M.Plan) (c : ℕ) where
           subst (Has p c) (sym (name-horizon p c low)) (horizon-has low (omega (arith, some)) (ltb-true _ _ (parts .1)))
 
 -- and each bound of the plan has one
-pub given-code : {p : M.Plan} → WithoutFault p → (b : Bound) → Given p b → isCode (p .events) (length (p .records)) (b .code) ≡ true
+pub given-code : {p : M.Plan} → WithoutFault p → (b : Bound) → Given p b → hasCode p (b .code) ≡ true
 unfolding isCode
 given-code {p} g =
     each-bound p _ (λ k l. (of-record (2 * k) k l (omega arith), of-record (2 * k + 1) k l (omega arith)))
@@ -131,10 +131,10 @@ given-code {p} g =
       of-horizon (HORIZON-CODES + 2 * e + 1) e some few (omega arith) (omega arith),
     ))
   where
-    of-record : (c k : ℕ) → k < length (p .records) → c / 2 ≡ k → isCode (p .events) (length (p .records)) c ≡ true
+    of-record : (c k : ℕ) → k < length (p .records) → c / 2 ≡ k → hasCode p c ≡ true
     of-record c k l q =
         let low : c < HORIZON-CODES = omega (arith, g .few) in
         rw (lt-ltb c HORIZON-CODES low, q, lt-ltb k (length (p .records)) l)
 
-    of-horizon : (c e : ℕ) → 1 ≤ e → e < p .events → HORIZON-CODES ≤ c → (c - HORIZON-CODES) / 2 ≡ e → isCode (p .events) (length (p .records)) c ≡ true
+    of-horizon : (c e : ℕ) → 1 ≤ e → e < p .events → HORIZON-CODES ≤ c → (c - HORIZON-CODES) / 2 ≡ e → hasCode p c ≡ true
     of-horizon c e some few low q = rw (le-ltb c HORIZON-CODES low, q, ne-eqb e 0 (λ z. omega (arith, some, z)), lt-ltb e (p .events) few)

@@ -2,6 +2,7 @@
 use Prim.Native.Nat.{ℕ, _-_, _/_, _%_}
 use mathlib.Core.Bool.{Bool, cond, _&&_, not}
 use lib.Dec.{eqb, ltb}
+use lib.ListN.{length}
 use Rattle.meaning.specs.Plan.{Plan, recordAt}
 use Rattle.meaning.specs.Bounds.{Bound, HORIZON-CODES, upper, lower, horizonUpper, horizonLower}
 use Rattle.codes.specs.declared.Step.{Step}
@@ -21,6 +22,9 @@ unfoldable pub isCode : ℕ → ℕ → ℕ → Bool
 isCode events records c =
     let e = (c - HORIZON-CODES) / 2 in
     cond (ltb c HORIZON-CODES) (ltb (c / 2) records) (not (eqb e 0) && ltb e events)
+
+abbrev pub hasCode : Plan → ℕ → Bool
+hasCode p c = isCode (p .events) (length (p .records)) c
 
 -- the bound that the struct holds
 abbrev pub asBound : Step → Bound

@@ -107,14 +107,14 @@ pub starts-entered : {i j : ℕ} {bs : List Bound} → Leads i bs j → i ≡ j 
 starts-entered stop q v m = m
 starts-entered (step {b = b} l) q v m = ⊎-elim (λ e. Memᴰ·cast (e ∙ q) (last-entered l)) (λ k. k) (List·Memᴰ·cases-cons (starts-on-way (step {b = b} l) v m))
 
+pub nowhere : {i j : ℕ} → Leads i [] j → i ≡ j
+nowhere stop = refl
+
 -- it has two steps: none is lighter than nothing, and no bound starts where it ends
 two-steps : {i j : ℕ} {bs : List Bound} → Leads i bs j → i ≡ j → ((b : Bound) → List·Memᴰ b bs → b .start ≡ b .end → ⊥) → total bs <ℤ pos 0 → 2 ≤ length bs
 two-steps stop e f m = absurd (omega ticks)
 two-steps {j = j} (step {b = b} {bs = bs} l) e f m = go bs l
   where
-    nowhere : {i : ℕ} → Leads i [] j → i ≡ j
-    nowhere stop = refl
-
     go : (xs : List Bound) → Leads (b .end) xs j → 2 ≤ length (b ∷ xs)
     go [] k = absurd (f b (List·Memᴰ·head refl) (e ∙ sym (nowhere k)))
     go (x ∷ xs) k = omega arith

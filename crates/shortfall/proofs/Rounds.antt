@@ -22,9 +22,9 @@ use Rattle.meaning.proofs.Tests.{both}
 use Rattle.meaning.proofs.Distinct.{distinct-head, distinct-tail, distinct-cons}
 use Rattle.meaning.proofs.Bounds.{Given}
 use Rattle.meaning.proofs.ChainTest.{codes}
-use Rattle.meaning.proofs.Chains.{loop-chain}
+use Rattle.meaning.proofs.Chains.{nowhere, loop-chain}
 use Rattle.meaning.proofs.Short.{one-chain, zero-short}
-use Rattle.codes.specs.Codes.{named, isCode}
+use Rattle.codes.specs.Codes.{named, hasCode}
 use Rattle.codes.proofs.Names.{code-named, given-code, named-right}
 use Rattle.shortfall.specs.Round.{mayStep, goesOn, leadsRound}
 
@@ -37,9 +37,6 @@ not-before : (s e f : ℕ) → member (putIn s e) f ≡ false → member s f ≡
 not-before s e f h = sym (put-other s e f (not-put s e f h)) ∙ h
 
 -- ---- where bounds lead, from the front
-
-nowhere : {s z : ℕ} → Leads s [] z → s ≡ z
-nowhere stop = refl
 
 first-start : {s z : ℕ} {b : Bound} {bs : List Bound} → Leads s (b ∷ bs) z → b .start ≡ s
 first-start (step l) = refl
@@ -103,7 +100,7 @@ module _ {p : Plan} {from : ℕ} where
   )
   goes-returns at seen (c ∷ cs) h =
       let b : Bound = named p c in
-      let h1 = both (isCode (p .events) (length (p .records)) c) _ h in
+      let h1 = both (hasCode p c) _ h in
       let h2 = both (mayStep from at seen b) _ (h1 .1) in
       let is = code-named p c (h1 .0) in
       let rest = goes-returns (b .end) (putIn seen (b .end)) cs (h2 .1) in

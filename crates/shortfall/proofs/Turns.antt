@@ -1,7 +1,7 @@
 -- The turns of a walk along codes, one law for each way that a turn ends: before each, what is left of the codes decides as all of them do.
 -- Where a code is one of the plan its bound ends at an event that a set can have.
 use mathlib.Core.Path.{_≡_, refl}
-use mathlib.Core.Bool.{Bool, true, false}
+use mathlib.Core.Bool.{true, false}
 use mathlib.Core.List.{List, [], _∷_}
 use Prim.Native.Nat.{ℕ, _+_, _≤_, _<_}
 use native.Mathlib.Nat.{not-suc-le-zero}
@@ -15,16 +15,12 @@ use Rattle.meaning.specs.Plan.{Plan}
 use Rattle.meaning.specs.Bounds.{Bound}
 use Rattle.meaning.specs.Faultless.{WithoutFault}
 use Rattle.meaning.proofs.Bounds.{bound-placed}
-use Rattle.codes.specs.Codes.{named, isCode}
+use Rattle.codes.specs.Codes.{named, hasCode}
 use Rattle.codes.proofs.Names.{code-named}
 use Rattle.shortfall.specs.Round.{mayStep, goesOn, leadsRound}
 
--- whether the code is that of a bound of the plan
-abbrev pub known : Plan → ℕ → Bool
-known p c = isCode (p .events) (length (p .records)) c
-
-pub known-inside : {p : Plan} → WithoutFault p → (c : ℕ) → known p c ≡ true → named p c .end < WIDTH
-known-inside {p} w c h = omega (arith, bound-placed p w (named p c) (code-named p c h .0) .ends, w .most)
+pub code-inside : {p : Plan} → WithoutFault p → (c : ℕ) → hasCode p c ≡ true → named p c .end < WIDTH
+code-inside {p} w c h = omega (arith, bound-placed p w (named p c) (code-named p c h .0) .ends, w .most)
 
 -- the codes before number i are passed: from `at`, with the events of `seen` entered, those that are left decide as all of them do
 pub record Passed (p : Plan) (cs : List ℕ) (from at seen i : ℕ) : Type 0 where
@@ -45,11 +41,11 @@ module _ {p : Plan} {cs : List ℕ} {from at seen i : ℕ} (w : Passed p cs from
     next = rw (add-one i) (drop-cons cs i 0 l)
 
     -- the next is no code of the plan
-    pub pass-unknown : known p (getD cs i 0) ≡ false → false ≡ leadsRound p cs
+    pub pass-unknown : hasCode p (getD cs i 0) ≡ false → false ≡ leadsRound p cs
     unfolding goesOn
     pass-unknown e = rw (next, e) at (w .same)
 
-    module _ (e : known p (getD cs i 0) ≡ true) {b : Bound} (f : b ≡ named p (getD cs i 0)) where
+    module _ (e : hasCode p (getD cs i 0) ≡ true) {b : Bound} (f : b ≡ named p (getD cs i 0)) where
       -- it is one, and its step may not be taken
       pub pass-barred : mayStep from at seen b ≡ false → false ≡ leadsRound p cs
       unfolding goesOn

@@ -4,11 +4,10 @@ use mathlib.Core.Bool.{Bool, true, _&&_, not}
 use mathlib.Core.List.{List, [], _∷_}
 use Prim.Native.Nat.{ℕ}
 use lib.Dec.{eqb, leb}
-use lib.ListN.{length}
 use Rattle.eventset.specs.Sets.{member, putIn}
 use Rattle.meaning.specs.Plan.{Plan}
 use Rattle.meaning.specs.Bounds.{Bound}
-use Rattle.codes.specs.Codes.{named, isCode}
+use Rattle.codes.specs.Codes.{named, hasCode}
 
 -- a walk that began at `from`, stands at `at` and has entered the events of `seen` may take the step b
 abbrev pub mayStep : ℕ → ℕ → ℕ → Bound → Bool
@@ -19,7 +18,7 @@ unfoldable pub goesOn : Plan → ℕ → ℕ → ℕ → List ℕ → Bool
 goesOn p from at seen [] = eqb at from
 goesOn p from at seen (c ∷ cs) =
     let b = named p c in
-    isCode (p .events) (length (p .records)) c && (mayStep from at seen b && goesOn p from (b .end) (putIn seen (b .end)) cs)
+    hasCode p c && (mayStep from at seen b && goesOn p from (b .end) (putIn seen (b .end)) cs)
 
 -- from where the first code begins; no codes lead nowhere, and so round
 abbrev pub leadsRound : Plan → List ℕ → Bool

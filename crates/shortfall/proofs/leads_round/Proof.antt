@@ -11,7 +11,8 @@ use Rattle.eventset.specs.Sets.{WIDTH, bitsOf, putIn}
 use Rattle.meaning.specs.Plan as M
 use Rattle.meaning.specs.Bounds.{Bound}
 use Rattle.plan.specs.Held.{InMemory}
-use Rattle.shortfall.proofs.Turns.{known, known-inside, Passed, pass-start, pass-end, pass-unknown, pass-barred, pass-next}
+use Rattle.codes.specs.Codes.{hasCode}
+use Rattle.shortfall.proofs.Turns.{code-inside, Passed, pass-start, pass-end, pass-unknown, pass-barred, pass-next}
 use Rattle.shortfall.proofs.leads_round.Statement.{statement}
 use Rattle.shortfall.proofs.leads_round.Tie as tie
 
@@ -73,7 +74,7 @@ abbrev stepped : tie.After-may-step Inv-loop μ-loop → tie.In-loop Inv-loop μ
 stepped c = turned (c .before .before .before)
 
 -- the test is that of the plan
-told : (c : tie.After-is-code Inv-loop μ-loop) (p : M.Plan) → Held (turned c) p → known p (code (turned c)) ≡ c .is-code .result
+told : (c : tie.After-is-code Inv-loop μ-loop) (p : M.Plan) → Held (turned c) p → hasCode p (code (turned c)) ≡ c .is-code .result
 told c p o = rw (← o .holds .events, ← o .holds .count) (sym (c .is-code .ensures))
 
 returns : tie.Need-returns Inv-loop μ-loop
@@ -85,7 +86,7 @@ step-of-requires-2 : tie.Need-step-of-requires-2 Inv-loop μ-loop
 step-of-requires-2 c κs = start (turned (c .before)) .pre .0
 
 -- the code is one of the plan, and its bound ends at an event
-one : (c : tie.Else1 Inv-loop μ-loop) (p : M.Plan) → Held (turned (c .before)) p → known p (code (turned (c .before))) ≡ true
+one : (c : tie.Else1 Inv-loop μ-loop) (p : M.Plan) → Held (turned (c .before)) p → hasCode p (code (turned (c .before))) ≡ true
 one c p o = told (c .before) p o ∙ not-false _ (c .if1 .left)
 
 inside : (c : tie.After-step-of2 Inv-loop μ-loop) → c .step-of2 .result .to < WIDTH
@@ -93,7 +94,7 @@ inside c =
     let turn = turned (c .before .before) in
     let p = start turn .pre .0 in
     let ends = ap (λ (b : Bound). b .end) (c .step-of2 .ensures (p .0) (p .1)) in
-    omega (arith, ends, known-inside (p .1 .faultless) (code turn) (one (c .before) (p .0) (p .1)))
+    omega (arith, ends, code-inside (p .1 .faultless) (code turn) (one (c .before) (p .0) (p .1)))
 
 may-step-requires : tie.Need-may-step-requires Inv-loop μ-loop
 may-step-requires c κs = inside c

@@ -52,7 +52,9 @@ pub fn compare_with(text: &[u8], lengths: Lengths) -> Result<Outcome, String> {
     same_entries("times area with its guards", &old_times(lengths).with_front(&times), given.times.all())?;
     same_entries("levels area with its guards", &old_levels(lengths).with_front(&levels), given.levels.all())?;
     same_entries("chain area with its guards", &old_chain(lengths).with_front(&chain), given.chain.all())?;
-    same("ticks short", ticks_short(text, &chain), library::ticks_short(text, &chain))?;
+    // Where no chain is given, both bounds of record 0: they lead round.
+    let codes = if chain.is_empty() { vec![0, 1] } else { chain };
+    same("ticks short", ticks_short(text, &codes), library::ticks_short(text, &codes))?;
     Ok(outcome)
 }
 
