@@ -3,12 +3,16 @@
  *
  *     cc -Iinclude -o solve examples/solve.c target/staticlib/libsolver.a
  *     ./solve examples/update.plan
+ *     ./solve earliest examples/update.plan
+ *
+ * The times are the latest; where the first word is `earliest`, the earliest. A file of that name can be named `./earliest`.
  *
  * The exit status is 0 where the plan is solved, 1 where there is no timetable, 2 where the text is refused, and 3 where the
  * text could not be read or the outcome not be written whole; standard error then says why. Of a text that could not be read
  * to its end nothing is printed. */
 #include <inttypes.h>
 #include <stdio.h>
+#include <string.h>
 
 #include "timetable.h"
 
@@ -76,14 +80,14 @@ static void print_solved(const int64_t *times, const uint8_t *levels, size_t wis
     }
 }
 
-/* Solves the text and prints its outcome. */
-static int solve(size_t length) {
+/* Solves the text, with the earliest times or the latest, and prints its outcome. */
+static int solve(size_t length, int earliest) {
     int64_t times[TIMETABLE_TIMES];
     uint8_t levels[TIMETABLE_LEVELS];
     uint16_t chain[TIMETABLE_CHAIN];
     size_t place = 0;
-    uint8_t number = timetable_solve((const uint8_t *)text, length, times, TIMETABLE_TIMES, levels, TIMETABLE_LEVELS,
-                                     chain, TIMETABLE_CHAIN, &place);
+    uint8_t number = (earliest ? timetable_solve_earliest : timetable_solve)(
+        (const uint8_t *)text, length, times, TIMETABLE_TIMES, levels, TIMETABLE_LEVELS, chain, TIMETABLE_CHAIN, &place);
     if (number == TIMETABLE_SOLVED) {
         print_solved(times, levels, place);
         return SOLVED;
@@ -108,8 +112,10 @@ static int failed(const char *name) {
 }
 
 int main(int count, char **words) {
-    const char *name = count > 1 ? words[1] : "standard input";
-    FILE *file = count > 1 ? fopen(name, "rb") : stdin;
+    int earliest = count > 1 && strcmp(words[1], "earliest") == 0;
+    int named = count > 1 + earliest;
+    const char *name = named ? words[1 + earliest] : "standard input";
+    FILE *file = named ? fopen(name, "rb") : stdin;
     if (file == NULL) {
         return failed(name);
     }
@@ -118,7 +124,7 @@ int main(int count, char **words) {
     if (ferror(file)) {
         return failed(name);
     }
-    int status = solve(length);
+    int status = solve(length, earliest);
     if (fflush(stdout) != 0 || ferror(stdout) || fclose(stdout) != 0) {
         return failed("standard output");
     }

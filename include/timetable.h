@@ -18,10 +18,10 @@ extern "C" {
 #define TIMETABLE_CHAIN 128
 #define TIMETABLE_TEXT 60000
 
-/* The outcome is a number, which timetable_solve returns, and a place, which it stores in *place.
+/* The outcome is a number, which is returned, and a place, which is stored in *place.
  *
  *   No.  when                                                place                written
- *   0    solved                                              count of wishes w    times: first n, the time of each event;
+ *   0    solved                                              count of wishes w    times: first n, one for each event;
  *                                                                                 levels: first w, in record order
  *   1    no timetable                                        count of chain steps chain: that many entries
  *   2    the text or a line has the wrong form               line, from 1         nothing
@@ -58,16 +58,23 @@ extern "C" {
 
 /* Solves the plan in text[0 .. n-1]. The areas hold nt, nl and nc entries.
  *
+ * The times are the latest, or the earliest when asked: of the best timetables timetable_solve gives the one with the greatest
+ * time of each event, so that the old image runs as long as possible, and timetable_solve_earliest the one with the least. One
+ * timetable has all of these times at once. Nothing else differs between the two; a plan without timetable may have several
+ * chains, and each of them may give any.
+ *
  * No pointer may be null, also where a length is 0, and each is aligned for its type. The areas and *place overlap neither
  * each other nor the text, and until the call returns nothing else writes the text or touches the areas. */
 uint8_t timetable_solve(const uint8_t *text, size_t n, int64_t *times, size_t nt, uint8_t *levels, size_t nl,
                         uint16_t *chain, size_t nc, size_t *place);
+uint8_t timetable_solve_earliest(const uint8_t *text, size_t n, int64_t *times, size_t nt, uint8_t *levels, size_t nl,
+                                 uint16_t *chain, size_t nc, size_t *place);
 
 /* By how many ticks the chain of these codes falls short in the plan in text[0 .. n-1]: what the weights of its bounds lack to
  * zero. Whatever the times, they miss these bounds by so many ticks together at least.
  *
  * 0 where the text is refused or the codes are no chain of its plan, so 1 or more shows by itself that there is no timetable.
- * The chain that timetable_solve gives for a text falls short in it by 1 or more; lend its first *place entries.
+ * The chain that either of the two above gives for a text falls short in it by 1 or more; lend its first *place entries.
  *
  * Nothing is written. No pointer may be null, also where a length is 0, chain is aligned for its type, and until the call
  * returns nothing else writes the text or the codes. */

@@ -8,8 +8,12 @@ use outside::generate::{self, Shape};
 use outside::library::{plan, solver};
 use outside::plan::Plan;
 use outside::reader::read;
+use outside::side::Side;
 use std::hint::black_box;
 use std::time::{Duration, Instant};
+
+/// The opponents give the earliest times, so these are asked for.
+const SIDE: Side = Side::Earliest;
 
 const PLANS: usize = 200;
 /// Floyd-Warshall afresh is slow: it gets fewer plans.
@@ -130,7 +134,7 @@ fn part(library: Duration, opponent: Duration) -> String {
 /// The library and Bellman-Ford give the same; returns the number of questions.
 fn agree<const EVENTS: usize>(plan: &Plan, text: &[u8]) -> usize {
     let (mut times, mut levels, mut chain) = areas();
-    let (number, place) = solver::solve(text, &mut times, &mut levels, &mut chain);
+    let (number, place) = solver::solve(SIDE, text, &mut times, &mut levels, &mut chain);
     let wanted = afresh::solve::<EVENTS>(plan, &mut BellmanFord).expect("the plan has a timetable");
     let same = number == 0 && times[..EVENTS] == wanted.times && levels[..place] == wanted.levels;
     assert!(same, "the solvers agree");
@@ -148,7 +152,7 @@ fn library_times(texts: &[Vec<u8>]) -> (Duration, Duration) {
     let mut area = [0; plan::LEVELS_AREA];
     let (mut times, mut levels, mut chain) = areas();
     let reading = mean(texts, 9, |text| plan::number(text, &mut area));
-    let solving = mean(texts, 9, |text| solver::solve(text, &mut times, &mut levels, &mut chain));
+    let solving = mean(texts, 9, |text| solver::solve(SIDE, text, &mut times, &mut levels, &mut chain));
     (reading, solving.saturating_sub(reading))
 }
 

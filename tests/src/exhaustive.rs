@@ -1,6 +1,7 @@
-//! Small plans by listing every timetable: sections 1 and 6 and demand 3, word for word, and of request T-04 what a timetable is.
-//! No bounds, no runs.
+//! Small plans by listing every timetable: sections 1 and 6 and demand 3, word for word, of request T-04 what a timetable is, and
+//! of request T-02 the sides. No bounds, no runs.
 use crate::plan::{Kind, Plan, Record};
+use crate::side::Side;
 
 /// Every row of times that keeps the horizon and all rules, and has level 1 or more at each wish.
 pub fn timetables(plan: &Plan) -> Vec<Vec<i64>> {
@@ -39,8 +40,16 @@ fn better(one: &[u8], other: &[u8]) -> bool {
     replies(one).into_iter().zip(replies(other)).find(|(a, b)| a != b).is_some_and(|(a, _)| a)
 }
 
-/// Holds an outcome to sections 1 and 6: a best timetable, the least one, its levels, and fair.
-pub fn check_solved(plan: &Plan, times: &[i64], given: &[u8]) -> Result<(), String> {
+/// Yes where the time lies further to this side than another.
+fn beyond(side: Side, time: i64, other: i64) -> bool {
+    match side {
+        Side::Latest => time > other,
+        Side::Earliest => time < other,
+    }
+}
+
+/// Holds an outcome to sections 1 and 6: a best timetable, the outermost one on its side, its levels, and fair.
+pub fn check_solved(plan: &Plan, side: Side, times: &[i64], given: &[u8]) -> Result<(), String> {
     let all = timetables(plan);
     if !all.iter().any(|row| row == times) {
         return Err(format!("{times:?} is no timetable"));
@@ -53,8 +62,8 @@ pub fn check_solved(plan: &Plan, times: &[i64], given: &[u8]) -> Result<(), Stri
         if better(&theirs, given) {
             return Err(format!("{other:?} with levels {theirs:?} is better than {times:?} with {given:?}"));
         }
-        if !better(given, &theirs) && other.iter().zip(times).any(|(their, our)| their < our) {
-            return Err(format!("{other:?} is as good as {times:?} and has an earlier event"));
+        if !better(given, &theirs) && other.iter().zip(times).any(|(&their, &our)| beyond(side, their, our)) {
+            return Err(format!("{other:?} is as good as {times:?}, so these are not the {side:?} times"));
         }
         fair(given, &theirs)?;
     }

@@ -1,26 +1,36 @@
-//! The known plans of document 01, section 7, with their outcomes, as requests T-04 and T-10 change them.
+//! The known plans of document 01, section 7, with their outcomes on both sides, as requests T-02, T-04 and T-10 change them.
 use crate::outcome::Outcome;
-use crate::plan::{Plan, Record};
+use crate::side::Sides;
+
+/// A text and its outcomes.
+pub type Known = (Vec<u8>, Sides<Outcome>);
 
 /// A plan as the document writes it: spaces for tabs, lines parted by `;`.
 fn text(plan: &str) -> Vec<u8> {
     format!("{plan}\n").replace("; ", "\n").replace(' ', "\t").into_bytes()
 }
 
-fn solved(plan: &str, times: &[i64], levels: &[u8]) -> (Vec<u8>, Outcome) {
-    (text(plan), Outcome::Solved { times: times.to_vec(), levels: levels.to_vec() })
+/// One best timetable, so both sides have its times.
+fn solved(plan: &str, times: &[i64], levels: &[u8]) -> Known {
+    between(plan, times, times, levels)
 }
 
-fn none(plan: &str, chain: &[u16]) -> (Vec<u8>, Outcome) {
-    (text(plan), Outcome::None { chain: chain.to_vec() })
+/// Several best timetables, between these times.
+fn between(plan: &str, earliest: &[i64], latest: &[i64], levels: &[u8]) -> Known {
+    let solved = |times: &[i64]| Outcome::Solved { times: times.to_vec(), levels: levels.to_vec() };
+    (text(plan), Sides { latest: solved(latest), earliest: solved(earliest) })
 }
 
-fn refused(plan: &str, number: u8, place: usize) -> (Vec<u8>, Outcome) {
-    (text(plan), Outcome::Refused { number, place })
+fn none(plan: &str, chain: &[u16]) -> Known {
+    (text(plan), Sides::alike(Outcome::None { chain: chain.to_vec() }))
 }
 
-/// Cases 1 to 12, then those that T-04 and T-10 bring. Each of the plans without a timetable has one chain only.
-pub fn cases() -> Vec<(Vec<u8>, Outcome)> {
+fn refused(plan: &str, number: u8, place: usize) -> Known {
+    (text(plan), Sides::alike(Outcome::Refused { number, place }))
+}
+
+/// Cases 1 to 12, then those that T-04, T-10 and T-02 bring. Each of the plans without a timetable has one chain only.
+pub fn cases() -> Vec<Known> {
     let second = "events 4 20; rule 0 1 3 3; rule 1 2 0 20; wish 2 3 2 0 1 3 2; wish 0 3 4 3 3 2 2 1 0";
     vec![
         solved("events 1 0", &[0], &[]),
@@ -50,15 +60,16 @@ pub fn cases() -> Vec<(Vec<u8>, Outcome)> {
         refused("events 129 0", 4, 1),
         none("events 128 0; rule 0 127 1 1", &[766, 1]),
         none("events 128 9; rule 127 0 1 1", &[1, 767]),
+        between("events 2 9; rule 0 1 2 5", &[0, 2], &[0, 5], &[]),
+        // The timetables with the least and the greatest times of all, 0, 0, 1 and 0, 3, 6, are not best.
+        between("events 3 9; wish 0 1 0 1 2 2 1; rule 1 2 1 3", &[0, 1, 2], &[0, 2, 5], &[2]),
     ]
 }
 
 /// Case 13: 256 rules are taken; a 257th is 3 at line 258.
-pub fn many_rules() -> Vec<(Vec<u8>, Outcome)> {
-    let rules = |count| vec![Record::rule(0, 1, 2, 9); count];
-    let solved = Outcome::Solved { times: vec![0, 2], levels: vec![] };
-    let refused = Outcome::Refused { number: 3, place: 258 };
-    [(256, solved), (257, refused)].map(|(count, outcome)| (Plan::new(2, 9).with(rules(count)).text(), outcome)).into()
+pub fn many_rules() -> Vec<Known> {
+    let rules = |count| format!("events 2 9{}", "; rule 0 1 2 9".repeat(count));
+    vec![between(&rules(256), &[0, 2], &[0, 9], &[]), refused(&rules(257), 3, 258)]
 }
 
 /// The whole output that section 7 prints for case 2.

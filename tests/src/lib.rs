@@ -12,4 +12,5 @@ pub mod outcome;
 pub mod plan;
 pub mod reader;
 pub mod second;
+pub mod side;
 pub mod tally;

@@ -1,6 +1,7 @@
 //! The outcomes of document 01, section 3, and the printed form of section 7.
 use crate::bounds::{bounds, Bound};
 use crate::plan::Plan;
+use crate::side::Sides;
 
 #[derive(Clone, Debug, PartialEq, Eq)]
 pub enum Outcome {
@@ -33,6 +34,13 @@ impl Outcome {
             Outcome::None { chain } => chain.len(),
             Outcome::Refused { place, .. } => *place,
         }
+    }
+}
+
+impl Sides<Outcome> {
+    /// It does not depend on the side.
+    pub fn kind(&self) -> String {
+        self.latest.kind()
     }
 }
 

@@ -40,7 +40,7 @@ pub one-narrowed : {n a b : ℕ} {lo hi : ℤ} {d x y : List ℤ} {q r : Bool} �
     Narrowed n a b lo hi d x q → Narrowed n a b lo hi d y r → (q ≡ r) × (x ≡ y)
 one-narrowed asked u v = alike (u .answer ∙ sym (v .answer)) (λ p q. one-cut asked (u .taken p) (v .taken q)) (λ p q. u .refused p ∙ sym (v .refused q))
 
--- `earliest`: the swept times, and those before and behind them
+-- `outermost`: the swept times, and those before and behind them
 pub one-swept : {A : Type 0} {z : A} {d x y : List A} {b n : ℕ} {f : ℕ → A} → Swept z d x b n f → Swept z d y b n f → x ≡ y
 one-swept {z = z} {d} {x} {y} {b} {n} {f} u v = ext-getD z x y (u .long ∙ sym (v .long)) (λ k l. here k (decLt k b) (decLt k (b + n)))
   where

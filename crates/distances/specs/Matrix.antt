@@ -101,7 +101,7 @@ pub record Narrowed (n a b : ℕ) (lo hi : ℤ) (d d′ : List ℤ) (r : Bool) :
   pub refused : r ≡ false → d′ ≡ d
   pub net : {H : ℕ} → Net n H d → Net n H d′
 
--- ---- the earliest times
+-- ---- the times on a side
 pub record Timing (n : ℕ) (d times : List ℤ) : Type 0 where
   pub horizon : ℕ
   pub net : Net n horizon d

@@ -3,11 +3,12 @@ ghost use mathlib.Core.Path.{_≡_};
 ghost use Prim.Native.Nat.{_*_, _≤_, _<_};
 ghost use lib.ListN.{length, getD};
 ghost use lib.IntN.{pos, _+ℤ_};
-ghost use Rattle.meaning.specs.Distances.{added, horizonOnly, earliest};
+ghost use Rattle.meaning.specs.Distances.{added, horizonOnly, outermost};
 ghost use Rattle.meaning.specs.Plan.{MOST-HORIZON};
 ghost use Rattle.distances.specs.Matrix.{STRIDE, at, meeting, Place, Starting, Started, Beside, Adding, Changed, Added, Narrowing, Narrowed, Timing};
 ghost use Rattle.distances.specs.Sweep.{Swept};
 ghost use Rattle.distances.specs.Rows.{Lowering, Copying, Inserting, lowered};
+use scope::Side;
 
 const STRIDE: usize = scope::MOST_EVENTS;
 
@@ -164,12 +165,23 @@ pub fn narrow(d: &mut [i32], n: usize, a: usize, b: usize, lo: i32, hi: i32) -> 
     false
 }
 
-// The least time of each event.
-pub fn earliest(d: &[i32], n: usize, times: &mut [i64])
+// The greatest time of event e, what its distance from the origin is bounded by; or the least, by its distance to the origin.
+fn time_of(d: &[i32], side: Side, e: usize) -> i64
+    requires { ⌜ Place e 0 (now d) ⌝ }
+    ensures { λ r. ⌜ r ≡ outermost side (at (now (d .entry))) e ⌝ }
+{
+    match side {
+        Side::Latest => widths::widen(distance(d, 0, e)),
+        Side::Earliest => ticks::minus_wide(distance(d, e, 0)),
+    }
+}
+
+// The greatest time of each event, or the least.
+pub fn outermost(d: &[i32], n: usize, side: Side, times: &mut [i64])
     requires { ⌜ Timing n (now d) (now times) ⌝ }
-    ensures { λ _. ⌜ Swept (pos 0) (now (times .entry)) (now (times .exit)) 0 n (earliest (at (now (d .entry)))) ⌝ }
+    ensures { λ _. ⌜ Swept (pos 0) (now (times .entry)) (now (times .exit)) 0 n (outermost side (at (now (d .entry)))) ⌝ }
 {
     for e in 0..n {
-        times[e] = ticks::minus_wide(distance(d, e, 0));
+        times[e] = time_of(d, side, e);
     }
 }

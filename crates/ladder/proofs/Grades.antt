@@ -12,10 +12,11 @@ use lib.IntN.{ℤ}
 use Rattle.meaning.specs.Plan as M
 use Rattle.meaning.specs.Plan.{recordAt, wishes, TOP-LEVEL, LEAST-LEVEL, MOST-RECORDS}
 use Rattle.meaning.specs.Outcome.{BestTimes, over}
-use Rattle.meaning.specs.Distances.{earliest, Stands}
+use Rattle.meaning.specs.Distances.{outermost, Stands}
 use Rattle.meaning.specs.Faultless.{GoodRecord, WithoutFault}
 use Rattle.meaning.specs.Climb.{number}
-use Rattle.meaning.proofs.Stands.{stands-same, stands-earliest}
+use Rattle.scope.specs.declared.Side.the-variants.{Latest}
+use Rattle.meaning.proofs.Stands.{stands-same, stands-outermost}
 use Rattle.meaning.proofs.Solve.{all-left}
 use Rattle.meaning.proofs.Wishes.{next-wish, next-rule, wishes-few, wish-below, all-wishes, climb-start, climb-best, climb-levels}
 use Rattle.plan.specs.declared.Plan.{Plan}
@@ -109,7 +110,7 @@ module _ {p : M.Plan} {h : Plan} {held : List ℕ} {d : List ℤ} (o : Ready p h
   ready-stage : {before levels : List ℕ} {r : ℕ} → GradesBegun h before levels r → Stage p LEAST-LEVEL 0 d d before levels
   ready-stage c = record {
     grades = replicate (wishes p) LEAST-LEVEL;
-    climbed = climb-start p (earliest (at d)) (stands-earliest (o .memory .faultless .some) (o .stands));
+    climbed = climb-start p (outermost Latest (at d)) (stands-outermost Latest (o .memory .faultless .some) (o .stands));
     written = c .written (o .memory .holds) (o .memory .faultless);
     net = o .net;
     stands = stands-same (o .stands) (all-left p);
@@ -152,8 +153,8 @@ module _ {h : Plan} {held : List ℕ} {y : ℕ} {d₀ d : List ℤ} {levels₀ l
       let best : Stands (p .events) (at d) (BestTimes p) = stands-same (s .stands) (climb-best p (s .climbed)) in
       record {
         grades = s .grades;
-        some = earliest (at d);
-        best = stands-earliest (o .memory .faultless .some) best;
+        some = outermost Latest (at d);
+        best = stands-outermost Latest (o .memory .faultless .some) best;
         levelled = climb-levels p (o .memory .faultless) (s .climbed);
         count = c .count (o .memory .holds) (o .memory .faultless);
         written = s .written;

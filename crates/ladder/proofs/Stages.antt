@@ -12,11 +12,12 @@ use lib.ListN.{length, getD, set}
 use lib.IntN.{ℤ, pos, _+ℤ_, _-ℤ_}
 use Rattle.meaning.specs.Plan as M
 use Rattle.meaning.specs.Plan.{recordAt, Times, Within, TOP-LEVEL}
-use Rattle.meaning.specs.Distances.{earliest, Stands}
+use Rattle.meaning.specs.Distances.{outermost, Stands}
 use Rattle.meaning.specs.Run.{runFirst, runPast}
 use Rattle.meaning.specs.Faultless.{GoodRecord}
 use Rattle.meaning.specs.Climb.{number, ClimbedTo}
-use Rattle.meaning.proofs.Stands.{stands-same, stands-earliest}
+use Rattle.scope.specs.declared.Side.the-variants.{Latest}
+use Rattle.meaning.proofs.Stands.{stands-same, stands-outermost}
 use Rattle.meaning.proofs.Solve.{Between}
 use Rattle.meaning.proofs.Runs.{Run, run-is}
 use Rattle.meaning.proofs.Over.{over-at, over-set}
@@ -98,10 +99,10 @@ module _ {p : M.Plan} {g k : ℕ} {old d : List ℤ} {before levels : List ℕ}
         go : (t : Bool) → r .answer ≡ t → Narrowed (p .events) a b low high d d′ t → Stage p g (suc k) old d′ before levels′
         go true z n =
             let held-to = narrowed-stands (s .stands) (s .net) asked n in
-            let u = stands-earliest (s .net .some) held-to in
+            let u = stands-outermost Latest (s .net .some) held-to in
             record {
               grades = set (s .grades) (number p k) (suc g);
-              climbed = climb-yes p (s .climbed) l e run (q .levelled .peaked) top (earliest (at d′)) (u .0) (u .1);
+              climbed = climb-yes p (s .climbed) l e run (q .levelled .peaked) top (outermost Latest (at d′)) (u .0) (u .1);
               written = r .up z ∙ ap (λ v. set v (number p k) (suc g)) (s .written) ∙ over-set (s .grades) before (number p k) (suc g) here;
               net = n .net (s .net);
               stands = stands-same held-to (climb-within p (s .climbed) l e run (q .levelled .peaked) top);

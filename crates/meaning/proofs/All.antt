@@ -1,4 +1,4 @@
--- Tests that compute, over the members of a list and over the lists of few members: what passes one, passes for each.
+-- Tests that compute, over the two sides, the members of a list and the lists of few members: what passes one, passes for each.
 use mathlib.Core.Path.{sym, subst, refl}
 use mathlib.Core.List.{List, [], _∷_, List·Memᴰ, List·Memᴰ·head, List·Memᴰ·tail, List·Memᴰ·not-nil}
 use mathlib.Core.Bool.{Bool, true, false, _&&_}
@@ -7,6 +7,8 @@ use native.Mathlib.Nat.{le-of-suc-le-suc, not-suc-le-zero}
 use lib.Dec.{T}
 use lib.ListN.{length}
 use mir.Facts.{and-yes, yes-and}
+use Rattle.scope.specs.declared.Side.{Side}
+use Rattle.scope.specs.declared.Side.the-variants.{Latest, Earliest}
 
 -- the second is computed only where the first passes
 abbrev pub implies : Bool → Bool → Bool
@@ -16,6 +18,14 @@ implies false b = true
 pub implied : (a b : Bool) → T (implies a b) → T a → T b
 implied true b t s = t
 implied false b t s = absurd s
+
+-- either side passes
+abbrev pub bothSides : (Side → Bool) → Bool
+bothSides f = f Latest && f Earliest
+
+pub each-side : (f : Side → Bool) → T (bothSides f) → (s : Side) → T (f s)
+each-side f t Latest = and-yes (f Latest) (f Earliest) t .0
+each-side f t Earliest = and-yes (f Latest) (f Earliest) t .1
 
 module _ {A : Type 0} where
   -- each member passes

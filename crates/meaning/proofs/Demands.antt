@@ -61,8 +61,8 @@ data Came (c : Call) : Type 0 where
 came : (c : Call) → Kept c → Came c
 came c k = go (longEnough (c .before)) refl (read (c .text)) refl (k .outcome) (k .right) (k .numbered) (k .placed) (k .writes)
   where
-    go : (b : Bool) → longEnough (c .before) ≡ b → (r : Reading) → read (c .text) ≡ r → (o : Outcome) → Right (cond b r (refused AREA-TOO-SHORT 0)) o →
-        c .number ≡ number o → c .place ≡ place o → c .after ≡ written o (c .before) → Came c
+    go : (b : Bool) → longEnough (c .before) ≡ b → (r : Reading) → read (c .text) ≡ r → (o : Outcome) →
+        Right (c .side) (cond b r (refused AREA-TOO-SHORT 0)) o → c .number ≡ number o → c .place ≡ place o → c .after ≡ written o (c .before) → Came c
     go true l (plan p) e o x n q w = on-plan p (record { reads = e; long = l })
     go true l (refused m i) e (solved ts ls) x n q w = absurd x
     go true l (refused m i) e (none cs) x n q w = absurd x
@@ -76,7 +76,8 @@ came c k = go (longEnough (c .before)) refl (read (c .text)) refl (k .outcome) (
 -- ---- a call on a plan: solved, or no timetable
 
 pub data Result (c : Call) (p : Plan) : Type 0 where
-  with-times : (ts : List ℤ) (ls : List ℕ) → Solved p ts ls → c .number ≡ 0 → c .place ≡ length ls → c .after ≡ written (solved ts ls) (c .before) → Result c p
+  with-times : (ts : List ℤ) (ls : List ℕ) → Solved (c .side) p ts ls → c .number ≡ 0 → c .place ≡ length ls → c .after ≡ written (solved ts ls) (c .before) →
+      Result c p
   with-chain : (cs : List ℕ) → Chain p cs → c .number ≡ 1 → c .place ≡ length cs → c .after ≡ written (none cs) (c .before) → Result c p
 
 module _ (c : Call) (p : Plan) (h : OnPlan c p) where
@@ -89,18 +90,18 @@ module _ (c : Call) (p : Plan) (h : OnPlan c p) where
   pub result : Kept c → Result c p
   result k =
       let e : heard (c .before) (c .text) ≡ plan p = ap (λ b. cond b (read (c .text)) (refused AREA-TOO-SHORT 0)) (h .long) ∙ h .reads in
-      go (k .outcome) (subst (λ r. Right r (k .outcome)) e (k .right)) (k .numbered) (k .placed) (k .writes)
+      go (k .outcome) (subst (λ r. Right (c .side) r (k .outcome)) e (k .right)) (k .numbered) (k .placed) (k .writes)
     where
-      go : (o : Outcome) → Right (plan p) o → c .number ≡ number o → c .place ≡ place o → c .after ≡ written o (c .before) → Result c p
+      go : (o : Outcome) → Right (c .side) (plan p) o → c .number ≡ number o → c .place ≡ place o → c .after ≡ written o (c .before) → Result c p
       go (solved ts ls) x n l w = with-times ts ls x n l w
       go (none cs) x n l w = with-chain cs x n l w
       go (refusal i j) x n l w = absurd x
 
   -- the times and levels that are written are those of a solved plan
-  pub solved-call : Kept c → c .number ≡ 0 → Solved p (times c p) (grades c)
+  pub solved-call : Kept c → c .number ≡ 0 → Solved (c .side) p (times c p) (grades c)
   solved-call k z = go (result k)
     where
-      go : Result c p → Solved p (times c p) (grades c)
+      go : Result c p → Solved (c .side) p (times c p) (grades c)
       go (with-times ts ls x n l w) =
           let e : times c p ≡ ts = front ts (c .before .times) (p .events) (ap (λ a. a .times) w) (sym (x .count)) in
           let f : grades c ≡ ls = front ls (c .before .levels) (c .place) (ap (λ a. a .levels) w) l in
@@ -116,10 +117,10 @@ module _ (c : Call) (p : Plan) (h : OnPlan c p) where
       go (with-chain cs x n l w) = rw (front cs (c .before .chain) (c .place) (ap (λ a. a .chain) w) l) x
 
   -- what is written has room
-  times-room : {ts : List ℤ} {ls : List ℕ} → Solved p ts ls → length ts ≤ length (c .before .times)
+  times-room : {ts : List ℤ} {ls : List ℕ} → Solved (c .side) p ts ls → length ts ≤ length (c .before .times)
   times-room x = omega (arith, x .count, good .most, long .for-times)
 
-  levels-room : {ts : List ℤ} {ls : List ℕ} → Solved p ts ls → length ls ≤ length (c .before .levels)
+  levels-room : {ts : List ℤ} {ls : List ℕ} → Solved (c .side) p ts ls → length ls ≤ length (c .before .levels)
   levels-room {ts} x = omega (arith, ap length (x .levelled), levels-count p (at ts), wishes-few (p .records), good .few, long .for-levels)
 
   chain-room : {cs : List ℕ} → Chain p cs → length cs ≤ length (c .before .chain)
@@ -167,8 +168,8 @@ demand-1 c k = by (came c k)
     }
 
 pub every-text : EveryText
-every-text text before =
-    let x = some-outcome before text in
+every-text s text before =
+    let x = some-outcome s before text in
     (written (x .0) before, number (x .0), place (x .0), record { outcome = x .0; right = x .1; numbered = refl; placed = refl; writes = refl })
 
 -- ---- demands 2 and 3
@@ -185,7 +186,7 @@ module _ (c : Call) (p : Plan) (h : OnPlan c p) (k : Kept c) where
     clash = none-call c p h k;
     best = λ z. solved-call c p h k z .best;
     levelled = λ z. solved-call c p h k z .levelled;
-    earliest = λ z. solved-call c p h k z .least;
+    furthest = λ z. solved-call c p h k z .furthest;
   }
 
   pub demand-3 : Demand3 c p
@@ -202,4 +203,4 @@ module _ (c : Call) (p : Plan) (h : OnPlan c p) (k : Kept c) where
 -- ---- any two agree
 
 pub any-two-agree : AnyTwoAgree
-any-two-agree text before x y n m a b p q = one-promise p q
+any-two-agree s text before x y n m a b p q = one-promise p q

@@ -1,5 +1,5 @@
 -- Closed distances: one more bound, the horizon alone, times that are attained, and one matrix for one set of timetables.
--- Each fact is one call of `omega ticks` over the triangles that it needs; the latest side is the earliest of the turned matrix.
+-- Each fact is one call of `omega ticks` over the triangles that it needs; what is true of the earliest times is what the turned matrix says of the latest.
 use mathlib.Core.Path.{_≡_, refl}
 use Prim.Native.Nat.{ℕ, _<_}
 use mathlib.Core.Bool.{Bool, true, false, cond}
@@ -10,7 +10,10 @@ use lib.Signed.{_≤ℤ_, _<ℤ_}
 use borrow.Author.Tests.{eq-eqb, ne-eqb}
 use Rattle.ticks.specs.Min.{minZ}
 use Rattle.ticks.proofs.Ticks.{ticks}
-use Rattle.meaning.specs.Distances.{Distances, Closed, Keeps, Adds, Below, horizonOnly, latest, earliest}
+use Rattle.meaning.specs.Distances.{Distances, Closed, Keeps, Adds, Below, horizonOnly, outermost}
+use Rattle.meaning.specs.Outcome.{AsFar}
+use Rattle.scope.specs.declared.Side.{Side}
+use Rattle.scope.specs.declared.Side.the-variants.{Latest, Earliest}
 
 -- where no entry is above H, none is below −H
 pub above : {n H : ℕ} {D : Distances} → Closed n D → Below n H D → {i j : ℕ} → i < n → j < n → negℤ (pos H) ≤ℤ D i j
@@ -68,17 +71,21 @@ turned-as t′ h f = record {
 pub turned-holds : {n : ℕ} {D : Distances} {t : ℕ → ℤ} → Keeps n D t → Keeps n (turned D) (λ e. negℤ (t e))
 turned-holds h = turned-as _ h (λ e. refl)
 
-pub latest-holds : {n : ℕ} {D : Distances} → Closed n D → 0 < n → Keeps n D (latest D)
+latest-holds : {n : ℕ} {D : Distances} → Closed n D → 0 < n → Keeps n D (outermost Latest D)
 latest-holds c z = record { origin = c .diag z; kept = c .tri z }
 
-pub latest-greatest : {n : ℕ} {D : Distances} {t : ℕ → ℤ} → 0 < n → Keeps n D t → {e : ℕ} → e < n → t e ≤ℤ latest D e
-latest-greatest z h {e} p = omega (ticks, h .kept z p, h .origin)
+latest-greatest : {n : ℕ} {D : Distances} {t : ℕ → ℤ} → 0 < n → Keeps n D t → {e : ℕ} → e < n → t e ≤ℤ outermost Latest D e
+latest-greatest z h p = omega (ticks, h .kept z p, h .origin)
 
-pub earliest-holds : {n : ℕ} {D : Distances} → Closed n D → 0 < n → Keeps n D (earliest D)
-earliest-holds c z = turned-holds (latest-holds (turned-closed c) z)
+-- the outermost times are times of the matrix
+pub outermost-holds : (s : Side) {n : ℕ} {D : Distances} → Closed n D → 0 < n → Keeps n D (outermost s D)
+outermost-holds Latest c z = latest-holds c z
+outermost-holds Earliest c z = turned-holds (latest-holds (turned-closed c) z)
 
-pub earliest-least : {n : ℕ} {D : Distances} {t : ℕ → ℤ} → 0 < n → Keeps n D t → {e : ℕ} → e < n → earliest D e ≤ℤ t e
-earliest-least {n} {D} {t} z h {e} p = omega (ticks, latest-greatest z (turned-holds h) p)
+-- and none of its times lies further out
+pub outermost-furthest : (s : Side) {n : ℕ} {D : Distances} {t : ℕ → ℤ} → 0 < n → Keeps n D t → {e : ℕ} → e < n → AsFar s (outermost s D e) (t e)
+outermost-furthest Latest z h p = latest-greatest z h p
+outermost-furthest Earliest {D = D} {t} z h {e} p = omega (ticks, latest-greatest z (turned-holds h) p)
 
 -- the row of a, moved so that the origin stands at 0
 pub row-holds : {n a : ℕ} {D : Distances} (t : ℕ → ℤ) → Closed n D → 0 < n → a < n → ((e : ℕ) → t e ≡ D a e -ℤ D a 0) → Keeps n D t
@@ -100,7 +107,7 @@ attained {a = a} {b} {D} c z la lb d lo hi =
     attained-by {D′ = λ i j. minZ (D i j) ((D i a +ℤ d) +ℤ D b j)} _ c z la lb lo hi (record { at = λ p q. refl }) (λ j. refl)
 
 -- each tick from the earliest to the latest of an event is its time in a timetable
-pub tick-attained : {n e : ℕ} {D : Distances} → Closed n D → 0 < n → e < n → (x : ℤ) → earliest D e ≤ℤ x → x ≤ℤ latest D e →
+pub tick-attained : {n e : ℕ} {D : Distances} → Closed n D → 0 < n → e < n → (x : ℤ) → outermost Earliest D e ≤ℤ x → x ≤ℤ outermost Latest D e →
     (t : ℕ → ℤ) × Keeps n D t × (t e ≡ x)
 tick-attained {n} {e} {D} c z l x lo hi = let r = attained c z z l x lo hi in (r .0, r .1, omega (ticks, r .2, r .1 .origin))
 

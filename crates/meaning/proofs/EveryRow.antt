@@ -9,13 +9,15 @@ use native.Mathlib.Omega.{arith}
 use lib.Dec.{T, eqb, leb, leb→le, le→leb, eqb→eq, T-not, not-T}
 use lib.ListN.{length, getD}
 use lib.IntN.{ℤ, pos, negsuc, _-ℤ_}
-use lib.Signed.{_≤ℤ_, leZ, leZ-yes}
+use lib.Signed.{leZ, leZ-yes}
 use mir.Facts.{and-yes, yes-and}
 use Rattle.meaning.specs.Plan.{Record, rule, wish, nothing, Plan, Times, Within, levelAt, Allows, Timetable, levels, wishes, LEAST-LEVEL}
 use Rattle.meaning.specs.Ladder.{questions, replies, better}
-use Rattle.meaning.specs.Outcome.{BestTimes, at, Solved}
+use Rattle.meaning.specs.Outcome.{BestTimes, at, AsFar, Solved}
 use Rattle.meaning.specs.Reading.{same}
 use Rattle.meaning.specs.Faultless.{WithoutFault}
+use Rattle.scope.specs.declared.Side.{Side}
+use Rattle.scope.specs.declared.Side.the-variants.{Latest, Earliest}
 use Rattle.meaning.proofs.All.{implies, implied}
 use Rattle.meaning.proofs.Times.{timesFrom, times-at}
 use Rattle.meaning.proofs.Agree.{agree-levels, agree-timetable}
@@ -149,21 +151,29 @@ module _ {p : Plan} (good : WithoutFault p) where
 
 -- ---- the test of a solved plan
 
--- no time is later
-abbrev noLater : List ℤ → List ℤ → Bool
-noLater [] us = true
-noLater (t ∷ ts) [] = false
-noLater (t ∷ ts) (u ∷ us) = let k = noLater ts us in leZ t u && k
+-- each time is as far out as the other row's
+abbrev asFar : Side → ℤ → ℤ → Bool
+asFar Latest x y = leZ y x
+asFar Earliest x y = leZ x y
 
-no-later : (ts us : List ℤ) → T (noLater ts us) → (e : ℕ) → e < length ts → at ts e ≤ℤ at us e
-no-later [] us h e l = absurd (not-suc-le-zero l)
-no-later (t ∷ ts) [] h e l = absurd h
-no-later (t ∷ ts) (u ∷ us) h zero l = leZ-yes (and-yes (leZ t u) (noLater ts us) h .0)
-no-later (t ∷ ts) (u ∷ us) h (suc e) l = no-later ts us (and-yes (leZ t u) (noLater ts us) h .1) e (le-of-suc-le-suc l)
+as-far : (s : Side) (x y : ℤ) → T (asFar s x y) → AsFar s x y
+as-far Latest x y h = leZ-yes h
+as-far Earliest x y h = leZ-yes h
 
--- the row us, whose replies are y, is not better than ts, whose replies are x, and where it is not worse, none of its times is earlier
-abbrev notAhead : List ℤ → List ℤ → List Bool → List Bool → Bool
-notAhead ts us x y = let k = implies (not (better x y)) (noLater ts us) in not (better y x) && k
+abbrev allAsFar : Side → List ℤ → List ℤ → Bool
+allAsFar s [] us = true
+allAsFar s (t ∷ ts) [] = false
+allAsFar s (t ∷ ts) (u ∷ us) = let k = allAsFar s ts us in asFar s t u && k
+
+all-as-far : (s : Side) (ts us : List ℤ) → T (allAsFar s ts us) → (e : ℕ) → e < length ts → AsFar s (at ts e) (at us e)
+all-as-far s [] us h e l = absurd (not-suc-le-zero l)
+all-as-far s (t ∷ ts) [] h e l = absurd h
+all-as-far s (t ∷ ts) (u ∷ us) h zero l = as-far s t u (and-yes (asFar s t u) (allAsFar s ts us) h .0)
+all-as-far s (t ∷ ts) (u ∷ us) h (suc e) l = all-as-far s ts us (and-yes (asFar s t u) (allAsFar s ts us) h .1) e (le-of-suc-le-suc l)
+
+-- the row us, whose replies are y, is not better than ts, whose replies are x, and where it is not worse, none of its times is further out
+abbrev notAhead : Side → List ℤ → List ℤ → List Bool → List Bool → Bool
+notAhead s ts us x y = let k = implies (not (better x y)) (allAsFar s ts us) in not (better y x) && k
 
 pub is-same : (x y : List ℕ) → T (same x y) → x ≡ y
 is-same [] [] h = refl
@@ -172,27 +182,27 @@ is-same (x ∷ xs) [] h = absurd h
 is-same (x ∷ xs) (y ∷ ys) h = let b = and-yes (eqb x y) (same xs ys) h in λ i. eqb→eq x y (b .0) i ∷ is-same xs ys (b .1) i
 
 -- the row itself is a timetable of the plan with these levels, and no timetable is ahead of it
-abbrev pub solvedTest : Plan → List ℤ → List ℕ → Bool
-solvedTest p ts ls =
+abbrev pub solvedTest : Side → Plan → List ℤ → List ℕ → Bool
+solvedTest s p ts ls =
     let qs = questions (wishes p) in
-    timetableTest p ts && (same ls (levels p (at ts)) && tryAll p (λ us. notAhead ts us (replies qs (levels p (at ts))) (replies qs (levels p (at us)))))
+    timetableTest p ts && (same ls (levels p (at ts)) && tryAll p (λ us. notAhead s ts us (replies qs (levels p (at ts))) (replies qs (levels p (at us)))))
 
-module _ (p : Plan) (ts : List ℤ) (ls : List ℕ) (good : WithoutFault p) (h : T (solvedTest p ts ls)) where
+module _ (s : Side) (p : Plan) (ts : List ℤ) (ls : List ℕ) (good : WithoutFault p) (h : T (solvedTest s p ts ls)) where
   repliesOf : Times → List Bool
   repliesOf u = replies (questions (wishes p)) (levels p u)
 
   is : (length ts ≡ p .events) × Timetable p (at ts)
   is = timetable-right p ts (and-yes (timetableTest p ts) _ h .0)
 
-  rest : (ls ≡ levels p (at ts)) × T (tryAll p (λ us. notAhead ts us (repliesOf (at ts)) (repliesOf (at us))))
+  rest : (ls ≡ levels p (at ts)) × T (tryAll p (λ us. notAhead s ts us (repliesOf (at ts)) (repliesOf (at us))))
   unfolding repliesOf
   rest = let b = and-yes (same ls (levels p (at ts))) _ (and-yes (timetableTest p ts) _ h .1) in (is-same ls (levels p (at ts)) (b .0), b .1)
 
-  judged : (u : Times) → Timetable p u → T (notAhead ts (row good u) (repliesOf (at ts)) (repliesOf u))
+  judged : (u : Times) → Timetable p u → T (notAhead s ts (row good u) (repliesOf (at ts)) (repliesOf u))
   unfolding repliesOf
   judged u k =
-      let test : List ℤ → Bool = λ us. notAhead ts us (repliesOf (at ts)) (repliesOf (at us)) in
-      subst (λ l. T (notAhead ts (row good u) (repliesOf (at ts)) (replies (questions (wishes p)) l))) (agree-levels good (row-agrees good k))
+      let test : List ℤ → Bool = λ us. notAhead s ts us (repliesOf (at ts)) (repliesOf (at us)) in
+      subst (λ l. T (notAhead s ts (row good u) (repliesOf (at ts)) (replies (questions (wishes p)) l))) (agree-levels good (row-agrees good k))
       (tried-all good test (rest .1) u k)
 
   best : BestTimes p (at ts)
@@ -202,16 +212,16 @@ module _ (p : Plan) (ts : List ℤ) (ls : List ℕ) (good : WithoutFault p) (h :
     unbeaten = λ u k. T-not (better (repliesOf u) (repliesOf (at ts))) (and-yes (not (better (repliesOf u) (repliesOf (at ts)))) _ (judged u k) .0);
   }
 
-  least : (u : Times) → BestTimes p u → (e : ℕ) → e < p .events → at ts e ≤ℤ u e
+  furthest : (u : Times) → BestTimes p u → (e : ℕ) → e < p .events → AsFar s (at ts e) (u e)
   unfolding repliesOf
-  least u b e l =
+  furthest u b e l =
       let x : List Bool = repliesOf (at ts) in
       let y : List Bool = repliesOf u in
       let us : List ℤ = row good u in
       let unbeaten : T (not (better x y)) = not-T (better x y) (b .unbeaten (at ts) (is .1)) in
-      let later : T (noLater ts us) = implied (not (better x y)) (noLater ts us) (and-yes (not (better y x)) _ (judged u (b .member)) .1) unbeaten in
-      subst (λ z. at ts e ≤ℤ z) (row-agrees good (b .member) e l) (no-later ts us later e (omega (arith, is .0)))
+      let far : T (allAsFar s ts us) = implied (not (better x y)) (allAsFar s ts us) (and-yes (not (better y x)) _ (judged u (b .member)) .1) unbeaten in
+      subst (λ z. AsFar s (at ts e) z) (row-agrees good (b .member) e l) (all-as-far s ts us far e (omega (arith, is .0)))
 
   -- what passes the test is right
-  pub solved-right : Solved p ts ls
-  solved-right = record { count = is .0; best = best; levelled = rest .0; least = least }
+  pub solved-right : Solved s p ts ls
+  solved-right = record { count = is .0; best = best; levelled = rest .0; furthest = furthest }

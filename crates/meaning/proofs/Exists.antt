@@ -9,10 +9,11 @@ use lib.IntN.{pos, _+ℤ_}
 use Rattle.ticks.proofs.Ticks as K
 use Rattle.meaning.specs.Plan.{Plan, recordAt, Times, Timetable}
 use Rattle.meaning.specs.Bounds.{Bound, upper, lower, Chain}
-use Rattle.meaning.specs.Distances.{horizonOnly, earliest, Distances, Stands, addedBound, Meets, Clashes}
+use Rattle.meaning.specs.Distances.{horizonOnly, outermost, Distances, Stands, addedBound, Meets, Clashes}
 use Rattle.meaning.specs.Faultless.{WithoutFault}
 use Rattle.meaning.proofs.Bounds.{Given, bound-placed, given-upper, given-lower, given-horizon-upper, given-horizon-lower, UpTo}
-use Rattle.meaning.proofs.Stands.{With, AddsBound, added-adds, stands-adds, stands-earliest, stands-horizon, stands-next, stands-all}
+use Rattle.scope.specs.declared.Side.the-variants.{Latest}
+use Rattle.meaning.proofs.Stands.{With, AddsBound, added-adds, stands-adds, stands-outermost, stands-horizon, stands-next, stands-all}
 use Rattle.meaning.proofs.Walks.{Walks, walks-add, walks-horizon}
 use Rattle.meaning.proofs.Chains.{some-chain, clash-loop}
 
@@ -71,4 +72,4 @@ module _ {p : Plan} (w : WithoutFault p) where
 
   -- never both: see `chain-excludes`
   pub timetable-or-chain : ((t : Times) × Timetable p t) ⊎ SomeChain p
-  timetable-or-chain = ⊎-map (λ x. (earliest (x .0), stands-earliest (w .some) (x .1 .stands))) (λ c. c) plan-held
+  timetable-or-chain = ⊎-map (λ x. (outermost Latest (x .0), stands-outermost Latest (w .some) (x .1 .stands))) (λ c. c) plan-held

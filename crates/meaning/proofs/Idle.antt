@@ -21,13 +21,14 @@ use Rattle.meaning.proofs.Demands.{front, Result, with-times, with-chai
 
 pub known-plans : KnownPlans
 known-plans k m c t l p =
-    let e : p .outcome ≡ k .outcome = known-alone k m (p .outcome) (rw (l, t) at (p .right)) in
+    let e : p .outcome ≡ k .outcome (c .side) = known-alone k m (c .side) (p .outcome) (rw (l, t) at (p .right)) in
     record { numbered = p .numbered ∙ ap number e; placed = p .placed ∙ ap place e; writes = p .writes ∙ ap (λ o. written o (c .before)) e }
 
+-- one that is solved with the same times on either side
 abbrev pub row : String → List ℤ → List ℕ → Known
-row t ts ls = record { text = t; outcome = solved ts ls }
+row t ts ls = record { text = t; outcome = λ s. solved ts ls }
 
--- the levels that a known plan ends with
+-- the levels that it ends with
 known-grades : (t : String) (ts : List ℤ) (ls : List ℕ) → List·Memᴰ (row t ts ls) table →
     (c : Call) → c .text ≡ bytes t → longEnough (c .before) ≡ true → Kept c → grades c ≡ ls
 known-grades t ts ls m c e l k =
@@ -60,19 +61,19 @@ pub case-6 : List·Memᴰ (row CASE-6 (pos 0 ∷ pos 0 ∷ pos 3 ∷ []) (1 ∷ 
 case-6 = row-behind 8 table (List·Memᴰ·head refl)
 
 pub no-fixed-reply : NoFixedReply
-no-fixed-reply before after l f = second-time (before .times) (after .times) (written-times CASE-5 _ _ case-5) (written-times CASE-6 _ _ case-6)
+no-fixed-reply s before after l f = second-time (before .times) (after .times) (written-times CASE-5 _ _ case-5) (written-times CASE-6 _ _ case-6)
   where
     written-times : (t : String) (ts : List ℤ) (ls : List ℕ) → List·Memᴰ (row t ts ls) table → after .times ≡ over ts (before .times)
     written-times t ts ls m =
         let x = f (bytes t) in
-        let c : Call = record { text = bytes t; before = before; after = after; number = x .0; place = x .1 } in
+        let c : Call = record { side = s; text = bytes t; before = before; after = after; number = x .0; place = x .1 } in
         ap (λ a. a .times) (known-plans (row t ts ls) m c refl l (x .2) .writes)
 
     second-time : (x y : List ℤ) → y ≡ over (pos 0 ∷ pos 1 ∷ []) x → y ≡ over (pos 0 ∷ pos 0 ∷ pos 3 ∷ []) x → ⊥
     second-time x y d e = let z : _≡_ {A = ℕ} 1 0 = cc in omega arith
 
 pub writes-something : WritesSomething
-writes-something before = no-fixed-reply before before
+writes-something s before = no-fixed-reply s before before
 
 pub climbs-on : ClimbsOn
 climbs-on c t l k e = let d = known-grades CASE-6 _ _ case-6 c t l k in let z : _≡_ {A = ℕ} 1 3 = cc in omega arith

@@ -1,4 +1,4 @@
--- Every plan without fault that has a timetable has its best ones, and one of them has the least time of every event: the climb of the
+-- Every plan without fault that has a timetable has its best ones, and on either side one of them has the outermost time of every event: the climb of the
 -- ladder with a matrix for the timetables left. Each question is two bounds; they can be added (yes) or leave nothing (no).
 use mathlib.Core.Path.{_≡_, refl, ap, sym, subst, subst⁻¹, _∙_}
 use mathlib.Core.Logic.{_↔_, _⊎_, inl, inr, ⊎-elim, ⊎-map}
@@ -7,23 +7,24 @@ use Prim.Native.Nat.{ℕ, zero, suc, _+_, _-_, _≤_, _<_}
 use native.Mathlib.Omega.{arith}
 use lib.ListN.{length, set, replicate, getD-replicate}
 use lib.IntN.{ℤ, pos, _+ℤ_, _-ℤ_}
-use lib.Signed.{_≤ℤ_}
 use Rattle.ticks.proofs.Ticks as K
 use Rattle.ticks.proofs.Ticks.{ticks}
 use Rattle.meaning.specs.Plan.{Record, rule, wish, Plan, recordAt, Times, Timetable, Within, levels, wishes, TOP-LEVEL, LEAST-LEVEL}
 use Rattle.meaning.specs.Bounds.{Bound, upper, lower}
-use Rattle.meaning.specs.Distances.{Keeps, earliest, Distances, Stands, addedBound}
-use Rattle.meaning.specs.Outcome.{BestTimes, at, Solved}
+use Rattle.meaning.specs.Distances.{Keeps, outermost, Distances, Stands, addedBound}
+use Rattle.meaning.specs.Outcome.{BestTimes, at, AsFar, Solved}
 use Rattle.meaning.specs.Run.{runFirst, runPast}
 use Rattle.meaning.proofs.Times.{timesFrom, times-count, times-at}
 use Rattle.meaning.specs.Faultless.{WithoutFault, GoodRecord}
 use Rattle.meaning.specs.Climb.{Left, number, ClimbedTo}
-use Rattle.meaning.proofs.Distances.{earliest-holds, earliest-least}
+use Rattle.meaning.proofs.Distances.{outermost-holds, outermost-furthest}
 use Rattle.meaning.proofs.Runs.{Run, InRun, run-is}
 use Rattle.meaning.proofs.Levels.{levels-allowed}
 use Rattle.meaning.proofs.Wishes.{climb-start, climb-rule, climb-yes, climb-within, climb-no, climb-next, climb-best, climb-levels}
 use Rattle.meaning.proofs.Bounds.{Placed, kept-upper, kept-lower, held-record}
-use Rattle.meaning.proofs.Stands.{stands-same, With, added-adds, stands-adds, stands-none, stands-earliest}
+use Rattle.meaning.proofs.Stands.{stands-same, With, added-adds, stands-adds, stands-none, stands-outermost}
+use Rattle.scope.specs.declared.Side.{Side}
+use Rattle.scope.specs.declared.Side.the-variants.{Latest}
 use Rattle.meaning.proofs.Chains.{chain-excludes}
 use Rattle.meaning.proofs.Exists.{plan-held}
 
@@ -66,22 +67,23 @@ all-left p t = (
   λ h. h .member,
 )
 
--- ---- the end: the least times
+-- ---- the end: the times on a side
 
 -- rows of times that agree on the events
 keeps-agree : {n : ℕ} {D : Distances} {t : Times} (u : Times) → 0 < n → Keeps n D t → ((e : ℕ) → e < n → u e ≡ t e) → Keeps n D u
 keeps-agree u z h f = record { origin = f 0 z ∙ h .origin; kept = λ {i} {j} p q. omega (ticks, h .kept p q, f i p, f j q) }
 
--- the least times of a matrix that stands for the best timetables are the outcome, with the levels that these have
-pub earliest-solved : {p : Plan} {g : List ℕ} {D : Distances} → 0 < p .events → Stands (p .events) D (BestTimes p) →
-    ((t : Times) → BestTimes p t → levels p t ≡ g) → (ts : List ℤ) → length ts ≡ p .events → ((e : ℕ) → e < p .events → at ts e ≡ earliest D e) → Solved p ts g
-earliest-solved {p} z s levelled ts n f =
-    let best : BestTimes p (at ts) = s .from (keeps-agree (at ts) z (earliest-holds (s .closed) z) f) in
+-- the outermost times of a matrix that stands for the best timetables are the outcome, with the levels that these have
+pub outermost-solved : (s : Side) {p : Plan} {g : List ℕ} {D : Distances} → 0 < p .events → Stands (p .events) D (BestTimes p) →
+    ((t : Times) → BestTimes p t → levels p t ≡ g) → (ts : List ℤ) → length ts ≡ p .events → ((e : ℕ) → e < p .events → at ts e ≡ outermost s D e) →
+    Solved s p ts g
+outermost-solved s {p} z x levelled ts n f =
+    let best : BestTimes p (at ts) = x .from (keeps-agree (at ts) z (outermost-holds s (x .closed) z) f) in
     record {
       count = n;
       best = best;
       levelled = sym (levelled (at ts) best);
-      least = λ u b e l. subst⁻¹ (λ x. x ≤ℤ u e) (f e l) (earliest-least z (s .into b) l);
+      furthest = λ u b e l. subst⁻¹ (λ y. AsFar s y (u e)) (f e l) (outermost-furthest s z (x .into b) l);
     }
 
 -- ---- the climb, with a matrix for the timetables left
@@ -113,10 +115,10 @@ module _ {p : Plan} (w : WithoutFault p) where
 
           answered : Found (p .events) (λ t. Left p (s .grades) t × InRun lo first past (t b -ℤ t a)) → Stage y (suc r)
           answered (inl (D, t)) =
-              let u = stands-earliest (w .some) t in
+              let u = stands-outermost Latest (w .some) t in
               record {
                 grades = set (s .grades) (number p r) (suc y);
-                climbed = climb-yes p (s .climbed) h e run (q .levelled .peaked) top (earliest D) (u .0) (u .1);
+                climbed = climb-yes p (s .climbed) h e run (q .levelled .peaked) top (outermost Latest D) (u .0) (u .1);
                 matrix = D;
                 stands = stands-same t (climb-within p (s .climbed) h e run (q .levelled .peaked) top);
               }
@@ -139,22 +141,22 @@ module _ {p : Plan} (w : WithoutFault p) where
   more-grades s zero l = s
   more-grades s (suc m) l = subst (λ (y : ℕ). Stage y 0) (omega arith) (one-grade (omega arith) (more-grades s m (omega arith)))
 
-  -- best times, of them the least
-  pub plan-solved : {D : Distances} → Stands (p .events) D (Timetable p) → (ts : List ℤ) × (ls : List ℕ) × Solved p ts ls
-  plan-solved {D} s =
+  -- best times, of them the outermost
+  pub plan-solved : (s : Side) {D : Distances} → Stands (p .events) D (Timetable p) → (ts : List ℤ) × (ls : List ℕ) × Solved s p ts ls
+  plan-solved s {D} x =
       let first : Stage LEAST-LEVEL 0 = record {
         grades = replicate (wishes p) LEAST-LEVEL;
-        climbed = climb-start p (earliest D) (stands-earliest (w .some) s);
+        climbed = climb-start p (outermost s D) (stands-outermost s (w .some) x);
         matrix = D;
-        stands = stands-same s (all-left p);
+        stands = stands-same x (all-left p);
       } in
       let l : Stage TOP-LEVEL 0 = more-grades first (TOP-LEVEL - LEAST-LEVEL) (omega arith) in
-      let t : Times = earliest (l .matrix) in
+      let t : Times = outermost s (l .matrix) in
       let ts : List ℤ = timesFrom t 0 (p .events) in
       let best : Stands (p .events) (l .matrix) (BestTimes p) = stands-same (l .stands) (climb-best p (l .climbed)) in
       let same : (e : ℕ) → e < p .events → at ts e ≡ t e = λ e h. times-at t 0 (p .events) e h ∙ ap t (omega arith) in
-      (ts, l .grades, earliest-solved (w .some) best (climb-levels p w (l .climbed)) ts (times-count t 0 (p .events)) same)
+      (ts, l .grades, outermost-solved s (w .some) best (climb-levels p w (l .climbed)) ts (times-count t 0 (p .events)) same)
 
--- where there is a timetable there are best ones, and one of them has the least time of every event
-pub best-exists : {p : Plan} → WithoutFault p → {t : Times} → Timetable p t → (ts : List ℤ) × (ls : List ℕ) × Solved p ts ls
-best-exists w h = ⊎-elim (λ x. plan-solved w (x .1 .stands)) (λ c. absurd (chain-excludes (c .1) h)) (plan-held w)
+-- where there is a timetable there are best ones, and on either side one of them has the outermost time of every event
+pub best-exists : (s : Side) {p : Plan} → WithoutFault p → {t : Times} → Timetable p t → (ts : List ℤ) × (ls : List ℕ) × Solved s p ts ls
+best-exists s w h = ⊎-elim (λ x. plan-solved w s (x .1 .stands)) (λ c. absurd (chain-excludes (c .1) h)) (plan-held w)

@@ -9,8 +9,9 @@ use Rattle.ticks.proofs.Ticks.{ticks}
 use Rattle.meaning.specs.Plan.{Plan, recordAt, Times, Timetable}
 use Rattle.meaning.specs.Bounds.{Bound, upper, lower, Holds}
 use Rattle.meaning.specs.Faultless.{WithoutFault}
-use Rattle.meaning.specs.Distances.{Distances, Stands, Adds, addedBound, Meets, Clashes, horizonOnly, earliest}
-use Rattle.meaning.proofs.Distances.{adds-closed, adds-keeps, adds-old, adds-new, start-closed, start-means, means-start, earliest-holds}
+use Rattle.meaning.specs.Distances.{Distances, Stands, Adds, addedBound, Meets, Clashes, horizonOnly, outermost}
+use Rattle.meaning.proofs.Distances.{adds-closed, adds-keeps, adds-old, adds-new, start-closed, start-means, means-start, outermost-holds}
+use Rattle.scope.specs.declared.Side.{Side}
 use Rattle.meaning.proofs.Bounds.{Placed, UpTo, up-to-none, up-to-next, up-to-less, up-to-upper, up-to-lower, up-to-all, timetable-up-to}
 
 pub stands-same : {n : ℕ} {D : Distances} {X Y : Times → Type 0} → Stands n D X → ((t : Times) → X t ↔ Y t) → Stands n D Y
@@ -38,9 +39,9 @@ module _ {n : ℕ} {β : Bound} {D : Distances} {X : Times → Type 0} (s : Stan
   pub stands-none : Clashes β D → (t : Times) → With β X t → ⊥
   stands-none m t x = omega (ticks, s .into (x .0) .kept (l .ends) (l .starts), x .1)
 
--- the least times of X are times of X
-pub stands-earliest : {n : ℕ} {D : Distances} {X : Times → Type 0} → 0 < n → Stands n D X → X (earliest D)
-stands-earliest z s = s .from (earliest-holds (s .closed) z)
+-- the greatest times of X are times of X, and so are the least
+pub stands-outermost : (s : Side) {n : ℕ} {D : Distances} {X : Times → Type 0} → 0 < n → Stands n D X → X (outermost s D)
+stands-outermost s z x = x .from (outermost-holds s (x .closed) z)
 
 -- ---- a plan's timetables, record by record: horizon, then the upper and the lower bound of record k
 

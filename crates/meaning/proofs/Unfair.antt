@@ -15,6 +15,7 @@ use Rattle.meaning.specs.Known.{bytes, CASE-5-RAISED, CASE-6, table}
 use Rattle.meaning.proofs.Levels.{levels-count}
 use Rattle.meaning.proofs.KnownRight.{known-right}
 use Rattle.meaning.proofs.Idle.{row, case-5-raised, case-6}
+use Rattle.scope.specs.declared.Side.the-variants.{Latest}
 
 -- a timetable with two levels
 record Two (p : Plan) (x y : ℕ) : Type 0 where
@@ -26,7 +27,8 @@ record Two (p : Plan) (x y : ℕ) : Type 0 where
 -- that of a row of the table
 known-two : {t : String} {ts : List ℤ} {x y : ℕ} → List·Memᴰ (row t ts (x ∷ y ∷ [])) table → (p : Plan) → read (bytes t) ≡ plan p → Two p x y
 known-two {t} {ts} {x} {y} m p e =
-    let s : Solved p ts (x ∷ y ∷ []) = subst (λ r. Right r (solved ts (x ∷ y ∷ []))) e (known-right (row t ts (x ∷ y ∷ [])) m .right) in
+    let ls : List ℕ = x ∷ y ∷ [] in
+    let s : Solved Latest p ts ls = subst (λ r. Right Latest r (solved ts ls)) e (known-right (row t ts ls) m Latest .right) in
     record { times = at ts; member = s .best .member; has = sym (s .levelled); both = sym (levels-count p (at ts)) ∙ sym (ap length (s .levelled)) }
 
 module _ (p : Plan) (t : Times) {g₀ g₁ h₀ h₁ : ℕ} (o : Two p h₀ h₁) (e : levels p t ≡ g₀ ∷ g₁ ∷ []) where

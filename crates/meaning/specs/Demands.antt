@@ -14,11 +14,14 @@ use Rattle.meaning.specs.Reading.{plan, refused, read}
 use Rattle.meaning.specs.Bounds.{Bound, Holds, bounds, Chain}
 use Rattle.meaning.specs.Ladder.{lv, Loss, Pareto, Highest}
 use Rattle.meaning.specs.Numbers.{NOTHING-ALLOWED}
-use Rattle.meaning.specs.Outcome.{Outcome, number, place, at, BestTimes, Areas, longEnough, heard, written, Promise}
+use Rattle.meaning.specs.Outcome.{Outcome, number, place, at, BestTimes, AsFar, Areas, longEnough, heard, written, Promise}
 use Rattle.meaning.specs.Known.{Known, bytes, CASE-5, CASE-5-RAISED, CASE-6, table}
+use Rattle.scope.specs.declared.Side.{Side}
+use Rattle.scope.specs.declared.Side.the-variants.{Latest, Earliest}
 
 -- what a call was given, and what came of it
 pub record Call : Type 0 where
+  pub side : Side
   pub text : List ℕ
   pub before : Areas
   pub after : Areas
@@ -26,7 +29,7 @@ pub record Call : Type 0 where
   pub place : ℕ
 
 abbrev pub Kept : Call → Type 0
-Kept c = Promise (c .text) (c .before) (c .after) (c .number) (c .place)
+Kept c = Promise (c .side) (c .text) (c .before) (c .after) (c .number) (c .place)
 
 -- the text is the plan p, and the areas are long enough
 pub record OnPlan (c : Call) (p : Plan) : Type 0 where
@@ -65,10 +68,10 @@ pub record Demand1 (c : Call) : Type 0 where
 
 -- there is an outcome for every text and all areas
 abbrev pub EveryText : Type 0
-EveryText = (text : List ℕ) (before : Areas) → (after : Areas) × (no at : ℕ) × Promise text before after no at
+EveryText = (s : Side) (text : List ℕ) (before : Areas) → (after : Areas) × (no at : ℕ) × Promise s text before after no at
 
 -- ---- demand 2: the times keep every bound; "'no timetable' comes exactly when none exists, with a closed chain of bounds that clash; the levels are
--- those of the ladder, the times the" earliest "that have them"
+-- those of the ladder, the times the latest (or earliest, when asked) that have them"
 
 pub record Demand2 (c : Call) (p : Plan) : Type 0 where
   pub keeps : c .number ≡ 0 → (b : Bound) → List·Memᴰ b (bounds p) → Holds (at (times c p)) b
@@ -76,7 +79,8 @@ pub record Demand2 (c : Call) (p : Plan) : Type 0 where
   pub clash : c .number ≡ 1 → Chain p (codes c)
   pub best : c .number ≡ 0 → BestTimes p (at (times c p))
   pub levelled : c .number ≡ 0 → grades c ≡ levels p (at (times c p))
-  pub earliest : c .number ≡ 0 → (u : Times) → BestTimes p u → (e : ℕ) → e < p .events → at (times c p) e ≤ℤ u e
+  -- T-02: "the latest, or the earliest when asked"
+  pub furthest : c .number ≡ 0 → (u : Times) → BestTimes p u → (e : ℕ) → e < p .events → AsFar (c .side) (at (times c p) e) (u e)
 
 -- ---- demand 3: "Take a solved plan and any other timetable that keeps all bounds. If it lifts one wish above the level we returned, then some other
 -- wish has a level in it that is below that wish's returned one and no higher than the returned level of the lifted wish."
@@ -93,15 +97,25 @@ pub record Optimal (c : Call) (p : Plan) : Type 0 where
 
 -- ---- "Any two outcomes that satisfy it are proved equal. The chosen chain is an exception"
 
--- what two calls on the same text and areas agree on
-pub record Agree (x y : Areas) (no mo at bt : ℕ) : Type 0 where
+-- what two calls on the same text and areas agree on, whatever side each asks for
+pub record ButTimes (x y : Areas) (no mo at bt : ℕ) : Type 0 where
   pub numbers : no ≡ mo
-  pub times : x .times ≡ y .times
   pub levels : x .levels ≡ y .levels
   pub rest : (no ≡ 1) ⊎ ((at ≡ bt) × (x .chain ≡ y .chain))
 
+-- and where both ask for the same
+pub record Agree (x y : Areas) (no mo at bt : ℕ) : Type 0 where
+  pub others : ButTimes x y no mo at bt
+  pub times : x .times ≡ y .times
+
 abbrev pub AnyTwoAgree : Type 0
-AnyTwoAgree = (text : List ℕ) (before x y : Areas) (no mo at bt : ℕ) → Promise text before x no at → Promise text before y mo bt → Agree x y no mo at bt
+AnyTwoAgree = (s : Side) (text : List ℕ) (before x y : Areas) (no mo at bt : ℕ) → Promise s text before x no at → Promise s text before y mo bt →
+    Agree x y no mo at bt
+
+-- T-02: asking for the earliest changes nothing but the times, and no time becomes greater
+abbrev pub SidesAgree : Type 0
+SidesAgree = (text : List ℕ) (before x y : Areas) (no mo i j : ℕ) → Promise Latest text before x no i → Promise Earliest text before y mo j →
+    ButTimes x y no mo i j × ((e : ℕ) → at (y .times) e ≤ℤ at (x .times) e)
 
 -- ---- "Case 2 and the starred cases are one table with a single statement that covers it"
 
@@ -112,7 +126,8 @@ pub record Ended (c : Call) (o : Outcome) : Type 0 where
   pub writes : c .after ≡ written o (c .before)
 
 abbrev pub KnownPlans : Type 0
-KnownPlans = (k : Known) → List·Memᴰ k table → (c : Call) → c .text ≡ bytes (k .text) → longEnough (c .before) ≡ true → Kept c → Ended c (k .outcome)
+KnownPlans = (k : Known) → List·Memᴰ k table → (c : Call) → c .text ≡ bytes (k .text) → longEnough (c .before) ≡ true → Kept c →
+    Ended c (k .outcome (c .side))
 
 -- ---- "Five idle versions have to be excluded"
 
@@ -122,11 +137,11 @@ RefusesNoPlan = (c : Call) (p : Plan) → OnPlan c p → Kept c → (c .number <
 
 -- "One with a fixed reply": no areas are right afterwards for every text
 abbrev pub NoFixedReply : Type 0
-NoFixedReply = (before after : Areas) → longEnough before ≡ true → ¬ ((text : List ℕ) → (no at : ℕ) × Promise text before after no at)
+NoFixedReply = (s : Side) (before after : Areas) → longEnough before ≡ true → ¬ ((text : List ℕ) → (no at : ℕ) × Promise s text before after no at)
 
 -- "One that writes nothing"
 abbrev pub WritesSomething : Type 0
-WritesSomething = (before : Areas) → longEnough before ≡ true → ¬ ((text : List ℕ) → (no at : ℕ) × Promise text before before no at)
+WritesSomething = (s : Side) (before : Areas) → longEnough before ≡ true → ¬ ((text : List ℕ) → (no at : ℕ) × Promise s text before before no at)
 
 -- a text does not end with these levels
 abbrev pub NeverEndsAt : String → List ℕ → Type 0

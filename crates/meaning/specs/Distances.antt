@@ -8,6 +8,8 @@ use lib.Signed.{_≤ℤ_, _<ℤ_}
 use Rattle.ticks.specs.Min.{minZ}
 use Rattle.meaning.specs.Plan.{Times}
 use Rattle.meaning.specs.Bounds.{Bound}
+use Rattle.scope.specs.declared.Side.{Side}
+use Rattle.scope.specs.declared.Side.the-variants.{Latest, Earliest}
 
 abbrev pub Distances : Type 0
 Distances = ℕ → ℕ → ℤ
@@ -59,9 +61,7 @@ pub record Below (n H : ℕ) (D : Distances) : Type 0 where
 unfoldable pub horizonOnly : ℕ → Distances
 horizonOnly H i j = cond (eqb j 0) (pos 0) (cond (eqb i j) (pos 0) (pos H))
 
--- the greatest and the least times of the timetables that D stands for
-abbrev pub latest : Distances → Times
-latest D e = D 0 e
-
-abbrev pub earliest : Distances → Times
-earliest D e = negℤ (D e 0)
+-- the greatest times of the timetables that D stands for, or the least
+abbrev pub outermost : Side → Distances → Times
+outermost Latest D e = D 0 e
+outermost Earliest D e = negℤ (D e 0)

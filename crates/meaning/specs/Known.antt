@@ -1,5 +1,6 @@
 -- The known plans of document 01, section 7: case 2 and the starred ones, 11 and 12, as one table of texts and outcomes, as T-04 leaves them: cases 3 and 4
--- have no timetable, and with every level one higher they, and case 5, show what they showed before. And the limit of T-10, from both sides.
+-- have no timetable, and with every level one higher they, and case 5, show what they showed before. The limit of T-10, from both sides. Since T-02 each
+-- plan with times has the latest ones beside the earliest, and two have several best timetables.
 use mathlib.Core.List.{List, [], _∷_}
 use Prim.Native.Nat.{ℕ, zero, suc}
 use Prim.Native.Char.{code}
@@ -7,18 +8,30 @@ use Prim.Native.String as S
 use Prim.Native.String.{String}
 use lib.IntN.{ℤ, pos}
 use Rattle.meaning.specs.Outcome.{Outcome, solved, none, refusal}
+use Rattle.scope.specs.declared.Side.{Side}
+use Rattle.scope.specs.declared.Side.the-variants.{Latest, Earliest}
 
 -- the bytes of a text of ASCII characters
 abbrev pub bytes : String → List ℕ
 bytes S.[] = []
 bytes (S._∷_ c s) = code c ∷ bytes s
 
+-- a text, and what it comes to on either side
 pub record Known : Type 0 where
   pub text : String
-  pub outcome : Outcome
+  pub outcome : Side → Outcome
 
+-- the same on either side; where it is solved, there is one best timetable
 abbrev known : String → Outcome → Known
-known t o = record { text = t; outcome = o }
+known t o = record { text = t; outcome = λ s. o }
+
+-- several best timetables: the latest times, the earliest, and the levels of both
+abbrev timesOn : (latest earliest : List ℤ) → Side → List ℤ
+timesOn l e Latest = l
+timesOn l e Earliest = e
+
+abbrev timed : String → (latest earliest : List ℤ) → List ℕ → Known
+timed t l e ls = record { text = t; outcome = λ s. solved (timesOn l e s) ls }
 
 -- cases that other sections or the proofs speak of by name
 abbrev pub CASE-5 : String
@@ -58,6 +71,9 @@ table =
     ∷ known CASE-8 (solved (pos 0 ∷ pos 4 ∷ pos 8 ∷ []) [])
     ∷ known "events\t2\t3\nrule\t0\t1\t4\t10\n" (none (514 ∷ 1 ∷ []))
     ∷ known "events\t2\t4\nrule\t0\t1\t4\t10\n" (solved (pos 0 ∷ pos 4 ∷ []) [])
+    ∷ timed "events\t2\t9\nrule\t0\t1\t2\t5\n" (pos 0 ∷ pos 5 ∷ []) (pos 0 ∷ pos 2 ∷ []) []
+    -- the timetables with the greatest and the least times of all, 0, 3, 6 and 0, 0, 1, are not best: they have level 1
+    ∷ timed "events\t3\t9\nwish\t0\t1\t0\t1\t2\t2\t1\nrule\t1\t2\t1\t3\n" (pos 0 ∷ pos 2 ∷ pos 5 ∷ []) (pos 0 ∷ pos 1 ∷ pos 2 ∷ []) (2 ∷ [])
     ∷ known "events\t2\t9\nwish\t0\t1\t0\t2\t1\t2\n" (refusal 6 2)
     ∷ known "events\t2\t9\nwish\t0\t1\t0\t0\t0\t0\n" (refusal 8 2)
     ∷ known "events\t2\t9\nwish\t1\t1\t0\t0\t0\t0\n" (refusal 5 2)

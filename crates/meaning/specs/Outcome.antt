@@ -1,4 +1,5 @@
--- The outcome and what is written: document 01, section 3. `Promise` is what the solver promises of every text and all areas.
+-- The outcome and what is written: document 01, section 3, and T-02: the side that is asked for. `Promise` is what the solver promises of every text and all
+-- areas.
 use mathlib.Core.Path.{_≡_}
 use mathlib.Core.List.{List, _++_}
 use mathlib.Core.Bool.{Bool, cond, _&&_}
@@ -12,6 +13,8 @@ use Rattle.meaning.specs.Ladder.{questions, Best}
 use Rattle.meaning.specs.Bounds.{Chain}
 use Rattle.meaning.specs.Reading.{Reading, plan, refused, read}
 use Rattle.meaning.specs.Numbers.{SOLVED, NO-TIMETABLE, AREA-TOO-SHORT}
+use Rattle.scope.specs.declared.Side.{Side}
+use Rattle.scope.specs.declared.Side.the-variants.{Latest, Earliest}
 
 -- ---- what an outcome says
 
@@ -40,20 +43,25 @@ BestTimes p t = Best (Timetable p) (levels p) (questions (wishes p)) t
 abbrev pub at : List ℤ → Times
 at ts e = getD ts e (pos 0)
 
--- among the best timetables the one with the least time for each event, and its levels
-pub record Solved (p : Plan) (times : List ℤ) (ls : List ℕ) : Type 0 where
+-- on the side that is asked for, the time x is as far out as y: no earlier, or no later
+abbrev pub AsFar : Side → ℤ → ℤ → Type 0
+AsFar Latest x y = y ≤ℤ x
+AsFar Earliest x y = x ≤ℤ y
+
+-- among the best timetables the one with the greatest time for each event, or the least where the earliest are asked for, and its levels
+pub record Solved (s : Side) (p : Plan) (times : List ℤ) (ls : List ℕ) : Type 0 where
   pub count : length times ≡ p .events
   pub best : BestTimes p (at times)
   pub levelled : ls ≡ levels p (at times)
-  pub least : (u : Times) → BestTimes p u → (e : ℕ) → e < p .events → at times e ≤ℤ u e
+  pub furthest : (u : Times) → BestTimes p u → (e : ℕ) → e < p .events → AsFar s (at times e) (u e)
 
-abbrev pub Right : Reading → Outcome → Type 0
-Right (plan p) (solved ts ls) = Solved p ts ls
-Right (plan p) (none cs) = Chain p cs
-Right (plan p) (refusal n l) = ⊥
-Right (refused m k) (solved ts ls) = ⊥
-Right (refused m k) (none cs) = ⊥
-Right (refused m k) (refusal n l) = (n ≡ m) × (l ≡ k)
+abbrev pub Right : Side → Reading → Outcome → Type 0
+Right s (plan p) (solved ts ls) = Solved s p ts ls
+Right s (plan p) (none cs) = Chain p cs
+Right s (plan p) (refusal n l) = ⊥
+Right s (refused m k) (solved ts ls) = ⊥
+Right s (refused m k) (none cs) = ⊥
+Right s (refused m k) (refusal n l) = (n ≡ m) × (l ≡ k)
 
 -- ---- the caller's areas
 
@@ -78,9 +86,9 @@ written (solved ts ls) a = record { times = over ts (a .times); levels = over ls
 written (none cs) a = record { times = a .times; levels = a .levels; chain = over cs (a .chain) }
 written (refusal n l) a = a
 
-pub record Promise (text : List ℕ) (before after : Areas) (no at : ℕ) : Type 0 where
+pub record Promise (s : Side) (text : List ℕ) (before after : Areas) (no at : ℕ) : Type 0 where
   pub outcome : Outcome
-  pub right : Right (heard before text) outcome
+  pub right : Right s (heard before text) outcome
   pub numbered : no ≡ number outcome
   pub placed : at ≡ place outcome
   pub writes : after ≡ written outcome before

@@ -10,6 +10,7 @@ use Rattle.meaning.specs.Reading.{read, split, digitsOf, numberOf, lineForm, li
 use Rattle.meaning.specs.Outcome.{refusal, over}
 use Rattle.meaning.specs.Known.{Known, bytes, table}
 use Rattle.meaning.proofs.KnownAlone.{known-alone}
+use Rattle.scope.specs.declared.Side.{Side}
 use Rattle.reader.specs.Heard.{planIn}
 use Rattle.print.specs.Written.{digitsWithin, decimal}
 use Rattle.print.specs.Lines.{line}
@@ -19,23 +20,23 @@ use Rattle.report.specs.Answer.{Answered}
 
 -- ---- known plans
 
--- the form of the outcome that the table has for a known plan
-abbrev pub knownForm : Known → List ℕ
-knownForm k = printed (planIn (read (bytes (k .text)))) (k .outcome)
+-- the form of the outcome that the table has for a known plan on a side
+abbrev pub knownForm : Known → Side → List ℕ
+knownForm k s = printed (planIn (read (bytes (k .text)))) (k .outcome s)
 
 -- what `answer` leaves for a known plan is the form of the table's outcome, and its length is returned
-pub known-answered : (k : Known) → List·Memᴰ k table → {before after : List ℕ} {r : ℕ} →
-    Answered (bytes (k .text)) before after r → AREA ≤ length before → (r ≡ length (knownForm k)) × (after ≡ over (knownForm k) before)
-known-answered k m {before} a l =
+pub known-answered : (k : Known) → List·Memᴰ k table → (s : Side) {before after : List ℕ} {r : ℕ} →
+    Answered s (bytes (k .text)) before after r → AREA ≤ length before → (r ≡ length (knownForm k s)) × (after ≡ over (knownForm k s) before)
+known-answered k m s {before} a l =
     let t = a .long l in
-    let f = ap (printed (planIn (read (bytes (k .text))))) (known-alone k m (t .outcome) (t .right)) in
+    let f = ap (printed (planIn (read (bytes (k .text))))) (known-alone k m s (t .outcome) (t .right)) in
     (t .count ∙ ap length f, t .written ∙ ap (λ (x : List ℕ). over x before) f)
 
 -- ---- case 2
 
 -- the second row of the table
 abbrev pub caseTwo : Known
-caseTwo = getD table 1 (record { text = ""; outcome = refusal 2 1 })
+caseTwo = getD table 1 (record { text = ""; outcome = λ s. refusal 2 1 })
 
 -- it is there
 case-two-known : List·Memᴰ caseTwo table
@@ -45,14 +46,14 @@ case-two-known = List·Memᴰ·tail (List·Memᴰ·head refl)
 abbrev pub OUTPUT : String
 OUTPUT = "solved\t4\t2\nat\t0\t0\nat\t1\t3\nat\t2\t3\nat\t3\t7\nlevel\t2\t3\nlevel\t3\t2\n"
 
--- the table's outcome prints as the document shows it
-pub case-two-printed : knownForm caseTwo ≡ bytes OUTPUT
+-- the table's outcome prints as the document shows it: it has one best timetable, so on either side
+pub case-two-printed : (s : Side) → knownForm caseTwo s ≡ bytes OUTPUT
 unfolding printed line digitsWithin decimal read split digitsOf numberOf lineForm lineStep peaked
-case-two-printed = refl
+case-two-printed s = refl
 
 -- and so does what `answer` leaves: these bytes at the front, all else as before, and their number is returned
-pub case-two-answered : {before after : List ℕ} {r : ℕ} → Answered (bytes (caseTwo .text)) before after r → AREA ≤ length before →
+pub case-two-answered : (s : Side) {before after : List ℕ} {r : ℕ} → Answered s (bytes (caseTwo .text)) before after r → AREA ≤ length before →
     (r ≡ length (bytes OUTPUT)) × (after ≡ over (bytes OUTPUT) before)
-case-two-answered {before} a l =
-    let f = known-answered caseTwo case-two-known a l in
-    (f .0 ∙ ap length case-two-printed, f .1 ∙ ap (λ (x : List ℕ). over x before) case-two-printed)
+case-two-answered s {before} a l =
+    let f = known-answered caseTwo case-two-known s a l in
+    (f .0 ∙ ap length (case-two-printed s), f .1 ∙ ap (λ (x : List ℕ). over x before) (case-two-printed s))

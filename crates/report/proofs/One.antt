@@ -1,4 +1,4 @@
--- Any two answers to the same text and area are equal but for the free chain (document 01, section 5): where the area is too short nothing is written;
+-- Any two answers to the same text, side and area are equal but for the free chain (document 01, section 5): where the area is too short nothing is written;
 -- else both are the printed forms of right outcomes, and two right outcomes are the same or two chains of one plan.
 use mathlib.Core.Path.{_≡_, refl, sym, _∙_}
 use mathlib.Core.Logic.{_⊎_, inl, inr}
@@ -16,6 +16,7 @@ use Rattle.meaning.specs.Outcome.{Outcome, none, Right, over}
 use Rattle.meaning.proofs.ReadGood.{read-faultless}
 use Rattle.meaning.proofs.Chains.{chain-excludes}
 use Rattle.meaning.proofs.Promises.{Same, equal, chains, one-outcome}
+use Rattle.scope.specs.declared.Side.{Side}
 use Rattle.reader.specs.Heard.{planIn}
 use Rattle.forms.specs.Printed.{printed}
 use Rattle.forms.specs.Put.{AREA}
@@ -38,26 +39,26 @@ pub record FreeChain (text before x y : List ℕ) (q r : ℕ) : Type 0 where
   pub one : ChainTold plan before x q
   pub other : ChainTold plan before y r
 
--- a right outcome of a text is the same as any other, or both are chains
-pub one-right : (text : List ℕ) (o q : Outcome) → Right (read text) o → Right (read text) q → Same o q
-one-right text = one-outcome (read text) (record { faultless = λ p e. read-faultless text e })
+-- a right outcome of a text and a side is the same as any other, or both are chains
+pub one-right : (s : Side) (text : List ℕ) (o q : Outcome) → Right s (read text) o → Right s (read text) q → Same o q
+one-right s text = one-outcome s (read text) (record { faultless = λ p e. read-faultless text e })
 
--- two answers to one text and area: equal, or the one freedom
-pub one-answer : {text before x y : List ℕ} {q r : ℕ} → Answered text before x q → Answered text before y r →
+-- two answers to one text, side and area: equal, or the one freedom
+pub one-answer : {s : Side} {text before x y : List ℕ} {q r : ℕ} → Answered s text before x q → Answered s text before y r →
     ((q ≡ r) × (x ≡ y)) ⊎ FreeChain text before x y q r
-one-answer {text} {before} {x} {y} {q} {r} a b = go (leb AREA (length before)) refl
+one-answer {s} {text} {before} {x} {y} {q} {r} a b = go (leb AREA (length before)) refl
   where
     p : Plan
     p = planIn (read text)
 
     -- the forms of two right outcomes
-    forms : AREA ≤ length before → {o u : Outcome} → Same o u → Right (read text) o → Right (read text) u →
+    forms : AREA ≤ length before → {o u : Outcome} → Same o u → Right s (read text) o → Right s (read text) u →
         q ≡ length (printed p o) → r ≡ length (printed p u) → x ≡ over (printed p o) before → y ≡ over (printed p u) before →
         ((q ≡ r) × (x ≡ y)) ⊎ FreeChain text before x y q r
     forms l equal f g c d w v = inl (c ∙ sym d, w ∙ sym v)
     forms l (chains {cs} {ds}) f g c d w v =
-        let m = none-plan (read text) f in
-        let n = none-plan (read text) g in
+        let m = none-plan s (read text) f in
+        let n = none-plan s (read text) g in
         inr (record {
           plan = p;
           reads = m .0;
@@ -70,11 +71,11 @@ one-answer {text} {before} {x} {y} {q} {r} a b = go (leb AREA (length before)) r
     go : (t : Bool) → leb AREA (length before) ≡ t → ((q ≡ r) × (x ≡ y)) ⊎ FreeChain text before x y q r
     go true e =
         let l = leb-true AREA (length before) e in
-        let s = a .long l in
-        let t = b .long l in
-        forms l (one-right text (s .outcome) (t .outcome) (s .right) (t .right)) (s .right) (t .right) (s .count) (t .count) (s .written) (t .written)
+        let t = a .long l in
+        let u = b .long l in
+        forms l (one-right s text (t .outcome) (u .outcome) (t .right) (u .right)) (t .right) (u .right) (t .count) (u .count) (t .written) (u .written)
     go false e =
         let l = leb-false AREA (length before) e in
-        let s = a .short l in
-        let t = b .short l in
-        inl (s .0 ∙ sym (t .0), s .1 ∙ sym (t .1))
+        let t = a .short l in
+        let u = b .short l in
+        inl (t .0 ∙ sym (u .0), t .1 ∙ sym (u .1))

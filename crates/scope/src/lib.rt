@@ -1,4 +1,5 @@
 // The numbers of documents 01 and 02, each of them once. `meaning/specs` says the same numbers for the definitions; the proofs hold the two to each other.
+// And the one choice that a caller has (T-02), which the definitions take from here.
 
 // What is allowed: section 1. The ends lo and hi lie between -MOST_END and MOST_END.
 pub const MOST_EVENTS: usize = 128;
@@ -44,3 +45,9 @@ pub const NOT_PEAKED: u8 = 6;
 pub const AREA_TOO_SHORT: u8 = 7;
 
 pub const NOTHING_ALLOWED: u8 = 8;
+
+// Which of the best timetables is given: the one with the greatest time of each event, or the one with the least.
+pub enum Side {
+    Latest,
+    Earliest,
+}

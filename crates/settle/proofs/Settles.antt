@@ -7,12 +7,13 @@ use lib.ListN.{length}
 use lib.IntN.{ℤ, pos}
 use Rattle.meaning.specs.Plan as M
 use Rattle.meaning.specs.Plan.{MOST-EVENTS}
-use Rattle.meaning.specs.Distances.{earliest}
+use Rattle.meaning.specs.Distances.{outermost}
 use Rattle.meaning.specs.Outcome as O
 use Rattle.meaning.specs.Outcome.{areas}
 use Rattle.meaning.specs.Faultless.{WithoutFault}
 use Rattle.meaning.proofs.Levels.{levels-count}
-use Rattle.meaning.proofs.Solve.{earliest-solved}
+use Rattle.meaning.proofs.Solve.{outermost-solved}
+use Rattle.scope.specs.declared.Side.{Side}
 use Rattle.plan.specs.declared.Plan.{Plan}
 use Rattle.plan.specs.Held.{InMemory}
 use Rattle.distances.specs.Matrix.{at, Started, Timing}
@@ -63,8 +64,8 @@ module _ {p : M.Plan} {h : Plan} {held : List ℕ} {list : List Entry} (m : InMe
   pub settle-chained : {r k : ℕ} {before after : List ℕ} → r < lastPlace h → Found (listed list (r + 1)) before k after → Chained p before k after
   settle-chained l f = found-chained (m .faultless) s (rw (m .holds .events, m .holds .count) at l) f
 
-pub chained-settled : {p : M.Plan} {before after : List ℕ} {k : ℕ} (ts : List ℤ) (ls : List ℕ) → Chained p before k after →
-    Settled p (areas ts ls before) (areas ts ls after) (Out.NoTimetable k)
+pub chained-settled : {s : Side} {p : M.Plan} {before after : List ℕ} {k : ℕ} (ts : List ℤ) (ls : List ℕ) → Chained p before k after →
+    Settled s p (areas ts ls before) (areas ts ls after) (Out.NoTimetable k)
 chained-settled ts ls c = record {
   outcome = O.none (c .codes);
   right = c .chain;
@@ -80,16 +81,16 @@ module _ {p : M.Plan} {d d′ : List ℤ} {before after : List ℕ} {r : ℕ} (w
   pub climbed-timing : {n : ℕ} {times : List ℤ} → n ≡ p .events → MOST-EVENTS ≤ length times → Timing n d′ times
   climbed-timing e l = record { horizon = p .horizon; net = rw e (c .net); room = omega (arith, w .most) }
 
-  pub climbed-settled : {n : ℕ} {ts ts′ : List ℤ} (chain : List ℕ) → n ≡ p .events → MOST-EVENTS ≤ length ts → Swept (pos 0) ts ts′ 0 n (earliest (at d′)) →
-      Settled p (areas ts before chain) (areas ts′ after chain) (Out.Solved r)
-  climbed-settled chain e l f =
+  pub climbed-settled : (s : Side) {n : ℕ} {ts ts′ : List ℤ} (chain : List ℕ) → n ≡ p .events → MOST-EVENTS ≤ length ts →
+      Swept (pos 0) ts ts′ 0 n (outermost s (at d′)) → Settled s p (areas ts before chain) (areas ts′ after chain) (Out.Solved r)
+  climbed-settled s chain e l f =
       let k = swept-written f (omega (arith, w .most)) in
-      let s = earliest-solved (w .some) (c .stands) (c .levelled) (k .front) (k .count ∙ e) (λ i q. k .entries i (omega arith)) in
+      let o = outermost-solved s (w .some) (c .stands) (c .levelled) (k .front) (k .count ∙ e) (λ i q. k .entries i (omega arith)) in
       record {
         outcome = O.solved (k .front) (c .grades);
-        right = s;
+        right = o;
         numbered = refl;
-        placed = c .count ∙ sym (levels-count p (O.at (k .front))) ∙ sym (ap length (s .levelled));
+        placed = c .count ∙ sym (levels-count p (O.at (k .front))) ∙ sym (ap length (o .levelled));
         variant = refl;
         writes = λ i. areas (k .over-old i) (c .written i) chain;
       }

@@ -10,6 +10,7 @@ use Rattle.meaning.specs.Reading.{plan}
 use Rattle.meaning.specs.Outcome as O
 use Rattle.meaning.specs.Outcome.{Areas, Right, number, place, written}
 use Rattle.meaning.specs.Numbers.{SOLVED, NO-TIMETABLE}
+use Rattle.scope.specs.declared.Side.{Side}
 use Rattle.plan.specs.declared.Plan.{Plan}
 use Rattle.plan.specs.Held.{InMemory}
 use Rattle.settle.specs.declared.Outcome.{Outcome}
@@ -39,10 +40,10 @@ pub record Settling (h : Plan) (held : List ℕ) (times : List ℤ) (levels chai
   pub levels-long : MOST-RECORDS ≤ length levels
   pub chain-long : MOST-EVENTS ≤ length chain
 
--- an outcome that is right for the plan, and what it writes
-pub record Settled (p : M.Plan) (before after : Areas) (r : Outcome) : Type 0 where
+-- an outcome that is right for the plan and the side, and what it writes
+pub record Settled (s : Side) (p : M.Plan) (before after : Areas) (r : Outcome) : Type 0 where
   pub outcome : O.Outcome
-  pub right : Right (plan p) outcome
+  pub right : Right s (plan p) outcome
   pub numbered : numberOf r ≡ number outcome
   pub placed : placeOf r ≡ place outcome
   pub variant : r ≡ named (numberOf r) (placeOf r)

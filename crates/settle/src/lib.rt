@@ -8,6 +8,7 @@ use distances::ENTRIES;
 use plan::Plan;
 use scope::NO_TIMETABLE;
 use scope::SOLVED;
+use scope::Side;
 
 // What a text comes to: times and levels with the count of wishes, a chain with the count of its steps, or a refusal with its number and place.
 pub enum Outcome {
@@ -38,17 +39,18 @@ pub fn place_in(outcome: Outcome) -> usize
     }
 }
 
-// The outcome of a plan in memory. Nothing is written before it is known.
+// The outcome of a plan in memory, with the latest times or the earliest. Nothing is written before it is known.
 pub fn settle(
     h: Plan,
     held: &[u8],
+    side: Side,
     times: &mut [i64],
     levels: &mut [u8],
     chain: &mut [u16],
 ) -> Outcome
     requires { ⌜ Settling h (now held) (now times) (now levels) (now chain) ⌝ }
     ensures { λ r. ⌜ ((p : M.Plan) → InMemory p h (now (held .entry))
-        → Settled p (areas (now (times .entry)) (now (levels .entry)) (now (chain .entry)))
+        → Settled side p (areas (now (times .entry)) (now (levels .entry)) (now (chain .entry)))
         (areas (now (times .exit)) (now (levels .exit)) (now (chain .exit))) r) ⌝ }
 {
     let n = h.events;
@@ -62,6 +64,6 @@ pub fn settle(
         return Outcome::NoTimetable(chain::chain_of(list, m, &d, chain));
     }
     let count = ladder::climb(&mut d, h, held, levels);
-    distances::earliest(&d, n, times);
+    distances::outermost(&d, n, side, times);
     Outcome::Solved(count)
 }

@@ -12,6 +12,7 @@ use Rattle.meaning.specs.Outcome as O
 use Rattle.meaning.specs.Outcome.{Areas, longEnough, heard}
 use Rattle.meaning.proofs.ReadGood.{read-faultless}
 use Rattle.meaning.proofs.Refusals.{refused-number}
+use Rattle.scope.specs.declared.Side.{Side}
 use Rattle.plan.specs.declared.Plan.{Plan}
 use Rattle.plan.specs.Held.{InMemory}
 use Rattle.reader.specs.declared.Answer.{Answer}
@@ -29,25 +30,25 @@ refusal-named zero line h = absurd (omega arith)
 refusal-named (suc zero) line h = absurd (omega arith)
 refusal-named (suc (suc k)) line h = refl
 
-module _ (text : List ℕ) (a : Areas) where
-  refused-solves : {k line : ℕ} → WRONG-FORM ≤ k → heard a text ≡ refused k line → Solves text a a (Out.Refused k line)
+module _ {s : Side} (text : List ℕ) (a : Areas) where
+  refused-solves : {k line : ℕ} → WRONG-FORM ≤ k → heard a text ≡ refused k line → Solves s text a a (Out.Refused k line)
   refused-solves {k} {line} l e = record {
     promise = record { outcome = O.refusal k line; right = rw e (refl, refl); numbered = refl; placed = refl; writes = refl };
     variant = refusal-named k line l;
   }
 
   -- an area is too short
-  pub short-solves : longEnough a ≡ false → Solves text a a (Out.Refused AREA-TOO-SHORT 0)
+  pub short-solves : longEnough a ≡ false → Solves s text a a (Out.Refused AREA-TOO-SHORT 0)
   short-solves e = refused-solves (omega arith) (rw e)
 
   -- the first fault of the text
-  pub fault-solves : {k line : ℕ} → longEnough a ≡ true → read text ≡ refused k line → Solves text a a (Out.Refused k line)
+  pub fault-solves : {k line : ℕ} → longEnough a ≡ true → read text ≡ refused k line → Solves s text a a (Out.Refused k line)
   fault-solves l e = refused-solves (refused-number text e .low) (rw (l, e))
 
-  pub settled-solves : longEnough a ≡ true → {p : M.Plan} {after : Areas} {r : Outcome} → read text ≡ plan p → Settled p a after r → Solves text a after r
-  settled-solves l e s = record {
-    promise = record { outcome = s .outcome; right = rw (l, e) (s .right); numbered = s .numbered; placed = s .placed; writes = s .writes };
-    variant = s .variant;
+  pub settled-solves : longEnough a ≡ true → {p : M.Plan} {after : Areas} {r : Outcome} → read text ≡ plan p → Settled s p a after r → Solves s text a after r
+  settled-solves l e d = record {
+    promise = record { outcome = d .outcome; right = rw (l, e) (d .right); numbered = d .numbered; placed = d .placed; writes = d .writes };
+    variant = d .variant;
   }
 
 -- ---- what the reader leaves

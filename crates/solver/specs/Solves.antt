@@ -5,6 +5,7 @@ use Prim.Native.Nat.{ℕ, _≤_}
 use lib.ListN.{length}
 use Rattle.meaning.specs.Plan.{MOST-LEVELS-TOGETHER}
 use Rattle.meaning.specs.Outcome.{Areas, Promise}
+use Rattle.scope.specs.declared.Side.{Side}
 use Rattle.reader.specs.declared.Answer.{Answer}
 use Rattle.reader.specs.Heard.{Read}
 use Rattle.settle.specs.declared.Outcome.{Outcome}
@@ -17,6 +18,6 @@ pub record ReadInto (text held : List ℕ) (answer : Answer) : Type 0 where
   pub read : Read text before held answer
 
 -- the promise of `meaning`, and that the outcome is the one that its number names
-pub record Solves (text : List ℕ) (before after : Areas) (r : Outcome) : Type 0 where
-  pub promise : Promise text before after (numberOf r) (placeOf r)
+pub record Solves (s : Side) (text : List ℕ) (before after : Areas) (r : Outcome) : Type 0 where
+  pub promise : Promise s text before after (numberOf r) (placeOf r)
   pub variant : r ≡ named (numberOf r) (placeOf r)

@@ -100,7 +100,7 @@ pub fn read_number(s: &[u8], at: usize, end: usize) -> Number
 }
 
 // The field from at up to end is the word w.
-fn is_word(s: &[u8], at: usize, end: usize, w: &[u8]) -> bool
+pub fn is_word(s: &[u8], at: usize, end: usize, w: &[u8]) -> bool
     requires { ⌜ (at ≤ end) × (end ≤ length (now s)) ⌝ }
     ensures { λ r. ⌜ r ≡ same (slice at end (now (s .entry))) (now (w .entry)) ⌝ }
 {

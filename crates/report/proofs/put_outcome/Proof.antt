@@ -8,6 +8,7 @@ use borrow.Author.Needs.{needs}
 use lib.IntN.{ℤ}
 use Rattle.meaning.specs.Reading.{read}
 use Rattle.plan.specs.Held.{Holds}
+use Rattle.scope.specs.declared.Side.{Side}
 use Rattle.reader.specs.Heard.{planIn}
 use Rattle.reader.proofs.Answers.{read-holds}
 use Rattle.settle.specs.declared.Outcome.the-variants as Out
@@ -35,22 +36,25 @@ holds s i = read-holds (i .read) (i .room)
 -- ---- what the outcome left
 
 module _ (c : tie.After-outcome-of) {text : List ℕ} (i : From (start (c .before)) text) where
+  abbrev side : Side
+  side = start (c .before) .args .side
+
   abbrev times : List ℤ
-  times = c .outcome-of .last .1 .1 .0
+  times = c .outcome-of .last .1 .1 .1 .0
 
   abbrev levels : List ℕ
-  levels = c .outcome-of .last .1 .1 .1 .0
+  levels = c .outcome-of .last .1 .1 .1 .1 .0
 
   abbrev chain : List ℕ
-  chain = c .outcome-of .last .1 .1 .1 .1 .0
+  chain = c .outcome-of .last .1 .1 .1 .1 .1 .0
 
-  solved-left : {w : ℕ} → c .outcome-of .result ≡ Out.Solved w → LeftSolved text times levels w
+  solved-left : {w : ℕ} → c .outcome-of .result ≡ Out.Solved w → LeftSolved side text times levels w
   solved-left e = left-solved refl (c .outcome-of .ensures _ i) e
 
-  none-left : {steps : ℕ} → c .outcome-of .result ≡ Out.NoTimetable steps → LeftNone text chain steps
+  none-left : {steps : ℕ} → c .outcome-of .result ≡ Out.NoTimetable steps → LeftNone side text chain steps
   none-left e = left-none refl (c .outcome-of .ensures _ i) e
 
-  refused-left : {k line : ℕ} → c .outcome-of .result ≡ Out.Refused k line → LeftRefused text k line
+  refused-left : {k line : ℕ} → c .outcome-of .result ≡ Out.Refused k line → LeftRefused side text k line
   refused-left e = left-refused refl (c .outcome-of .ensures _ i) e
 
   timed : {w : ℕ} → c .outcome-of .result ≡ Out.Solved w → Timed (planIn (read text)) (start (c .before) .args .said .plan) w times levels
@@ -61,7 +65,7 @@ module _ (c : tie.After-outcome-of) {text : List ℕ} (i : From (start (c .befor
         faultless = s .faultless;
         count = s .counted;
         long = s .long;
-        room = omega (arith, c .outcome-of .kept .1 .1 .1 .0);
+        room = omega (arith, c .outcome-of .kept .1 .1 .1 .1 .0);
       }
 
 abbrev found : tie.After-chain2 → tie.After-outcome-of

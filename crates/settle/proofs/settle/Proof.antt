@@ -1,5 +1,5 @@
 -- `settle::settle` meets its contract: the bounds are added from the horizon on; where one fails the chain is the outcome, else the ladder is
--- climbed and the least times are read off. Each step is a law of `Settles`.
+-- climbed and the outermost times are read off. Each step is a law of `Settles`.
 use borrow.Author.Needs.{needs}
 use Rattle.meaning.specs.Plan as M
 use Rattle.bounds.specs.Listed.{Listed}
@@ -31,7 +31,7 @@ all-tried c = c .before .before
 abbrev ready-to-climb : tie.After-climb → tie.Else1
 ready-to-climb c = c .before .before .before
 
-abbrev climbed : tie.After-earliest-arg → tie.After-climb
+abbrev climbed : tie.After-outermost-arg → tie.After-climb
 climbed c =
     let known = c .before .before in
     known .before .before .before
@@ -119,11 +119,11 @@ climb-requires c κs =
     let s = start (listed (begun (all-tried else))) .pre in
     record { plan = s .plan; ready = ready else (s .plan) (s .memory); room = s .levels-long }
 
-slice-aggregate-earliest : tie.Need-slice-aggregate-earliest
-slice-aggregate-earliest c = search needs
+slice-aggregate-outermost : tie.Need-slice-aggregate-outermost
+slice-aggregate-outermost c = search needs
 
-earliest-requires : tie.Need-earliest-requires
-earliest-requires c κs =
+outermost-requires : tie.Need-outermost-requires
+outermost-requires c κs =
     let at-climb = climbed c in
     let else = ready-to-climb at-climb in
     let s = start (listed (begun (all-tried else))) .pre in
@@ -138,15 +138,15 @@ same-length-3 c = search needs
 
 returns-2 : tie.Need-returns-2
 returns-2 c = λ p m.
-    let at-earliest = c .before in
-    let at-climb = climbed (at-earliest .before) in
+    let at-outermost = c .before in
+    let at-climb = climbed (at-outermost .before) in
     let else = ready-to-climb at-climb in
     let s = start (listed (begun (all-tried else))) .pre in
-    climbed-settled (m .faultless) (at-climb .climb .ensures p (ready else p m)) _ (m .holds .events) (s .times-long) (at-earliest .earliest .ensures)
+    climbed-settled (m .faultless) (at-climb .climb .ensures p (ready else p m)) _ _ (m .holds .events) (s .times-long) (at-outermost .outermost .ensures)
 
 pub settle-spec : {M : Type 1} → statement M
 settle-spec =
     tie.close
     (tie.spec sub-base mul-base mul-all add-all list-of-requires slice-aggregate-start start-requires slice-aggregate-try-all try-all-requires
-    slice-aggregate-chain-of chain-of-requires same-length returns slice-aggregate-climb climb-requires slice-aggregate-earliest earliest-requires
+    slice-aggregate-chain-of chain-of-requires same-length returns slice-aggregate-climb climb-requires slice-aggregate-outermost outermost-requires
     same-length-2 same-length-3 returns-2)

@@ -46,7 +46,7 @@ returns : tie.Need-returns
 returns c = λ text r.
     let back = c .before .before .before .before in
     let at-settle = back .before in
-    let last = at-settle .settle .last .1 .1 in
+    let last = at-settle .settle .last .1 .1 .1 in
     let at-told = told (at-settle .before) in
     let s = start (at-told .before) in
     let args = s .args in

@@ -35,6 +35,9 @@ slice-aggregate-print c =
     let told = c .before .before in
     sym (length-take-le _ _ (whole-within (told .before .before .before .read-text .ensures) (told .read .given .1)))
 
+side-asked-requires : tie.Need-side-asked-requires
+side-asked-requires c κs = search needs
+
 print-requires : tie.Need-print-requires
 print-requires c κs = search needs
 
@@ -45,4 +48,4 @@ pub main-spec : {M : Type 1} → statement M
 main-spec =
     tie.close
     (tie.spec slice-aggregate-read-text read-text-requires enum-known-read enum-told slice-aggregate-fail fail-requires returns
-    array-share-prefix-text slice-aggregate-print print-requires returns-2)
+    array-share-prefix-text slice-aggregate-print side-asked-requires print-requires returns-2)

@@ -6,6 +6,7 @@ use outside::chance::Chance;
 use outside::library::solver as library;
 use outside::plan::Plan;
 use outside::reader::read;
+use outside::side::{Side, BOTH};
 use outside::tally::{same, Group};
 use outside::{generate, known};
 
@@ -22,8 +23,10 @@ pub fn changed_chains(group: &mut Group, count: usize) {
             generate::plan(&mut chance, &shape)
         };
         let text = plan.text();
-        for codes in rows_of_codes(&mut chance, &plan, &given_chain(&text)) {
-            group.case(&text, case(&text, &codes));
+        for side in BOTH {
+            for codes in rows_of_codes(&mut chance, &plan, &given_chain(side, &text)) {
+                group.case(&text, case(&text, &codes));
+            }
         }
     }
 }
@@ -58,10 +61,10 @@ fn rows(codes: &[u16], longest: usize) -> Vec<Vec<u16>> {
 }
 
 /// The chain of a plan that has no timetable, else no codes.
-fn given_chain(text: &[u8]) -> Vec<u16> {
+fn given_chain(side: Side, text: &[u8]) -> Vec<u16> {
     let (mut times, mut levels) = ([0; library::TIMES_AREA], [0; library::LEVELS_AREA]);
     let mut chain = vec![0; library::CHAIN_AREA];
-    let (number, place) = library::solve(text, &mut times, &mut levels, &mut chain);
+    let (number, place) = library::solve(side, text, &mut times, &mut levels, &mut chain);
     chain.truncate(if number == 1 { place } else { 0 });
     chain
 }

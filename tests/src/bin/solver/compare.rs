@@ -1,10 +1,11 @@
-//! One call of the proved solver, held to the plain reader and the second solver.
+//! One text given to the proved solver on both sides, held to the plain reader and the second solver.
 use outside::bounds::check_chain;
 use outside::library::{solver as library, Area};
 use outside::outcome::Outcome;
 use outside::plan::Plan;
 use outside::reader::read;
 use outside::second;
+use outside::side::{Side, Sides};
 use outside::tally::{same, same_entries};
 
 /// The lengths of the three lent areas.
@@ -25,6 +26,12 @@ impl Lengths {
     }
 }
 
+/// What is right of a text: these outcomes, or any true chain of a plan without timetable.
+enum Right {
+    Outcomes(Sides<Outcome>),
+    Chain(Plan),
+}
+
 /// What one call gave, and the areas afterwards.
 struct Given {
     number: u8,
@@ -34,14 +41,24 @@ struct Given {
     chain: Area<u16>,
 }
 
-/// The outcome of the proved solver, once everything about it has been checked.
-pub fn compare(text: &[u8]) -> Result<Outcome, String> {
+/// The outcomes of the proved solver, once everything about them has been checked.
+pub fn compare(text: &[u8]) -> Result<Sides<Outcome>, String> {
     compare_with(text, LEAST)
 }
 
-pub fn compare_with(text: &[u8], lengths: Lengths) -> Result<Outcome, String> {
-    let given = call(text, lengths)?;
-    let outcome = wanted(text, lengths, &given)?;
+pub fn compare_with(text: &[u8], lengths: Lengths) -> Result<Sides<Outcome>, String> {
+    let right = right(text, lengths);
+    let outcomes = Sides::made(|side| compare_on(side, text, lengths, &right))?;
+    in_order(&outcomes)?;
+    Ok(outcomes)
+}
+
+fn compare_on(side: Side, text: &[u8], lengths: Lengths, right: &Right) -> Result<Outcome, String> {
+    let given = call(side, text, lengths)?;
+    let outcome = match right {
+        Right::Outcomes(outcomes) => outcomes.on(side).clone(),
+        Right::Chain(plan) => true_chain(plan, &given)?,
+    };
     same("number", outcome.number(), given.number)?;
     same("place", outcome.place(), given.place)?;
     let (times, levels, chain) = match &outcome {
@@ -58,34 +75,42 @@ pub fn compare_with(text: &[u8], lengths: Lengths) -> Result<Outcome, String> {
     Ok(outcome)
 }
 
+/// The levels are the same on both sides, and no event's earliest time comes after its latest.
+fn in_order(outcomes: &Sides<Outcome>) -> Result<(), String> {
+    let (Outcome::Solved { times: late, levels }, Outcome::Solved { times: early, levels: others }) =
+        (&outcomes.latest, &outcomes.earliest)
+    else {
+        return Ok(());
+    };
+    same_entries("levels with the earliest times", levels, others)?;
+    match (0..late.len()).find(|&event| early[event] > late[event]) {
+        None => Ok(()),
+        Some(event) => Err(format!("event {event}: earliest {}, latest {}", early[event], late[event])),
+    }
+}
+
 /// By how many ticks these codes fall short; 0 where they are no chain.
 pub fn ticks_short(text: &[u8], chain: &[u16]) -> u64 {
     read(text).map_or(0, |plan| check_chain(&plan, chain).unwrap_or(0))
 }
 
-fn call(text: &[u8], lengths: Lengths) -> Result<Given, String> {
+fn call(side: Side, text: &[u8], lengths: Lengths) -> Result<Given, String> {
     let lent_text = text.to_vec();
     let (mut times, mut levels, mut chain) = (old_times(lengths), old_levels(lengths), old_chain(lengths));
-    let (number, place) = library::solve(&lent_text, times.lent(), levels.lent(), chain.lent());
+    let (number, place) = library::solve(side, &lent_text, times.lent(), levels.lent(), chain.lent());
     same_entries("text afterwards", text, &lent_text)?;
     Ok(Given { number, place, times, levels, chain })
 }
 
-/// The right outcome. Where there is no timetable, any true chain is right: the given one is checked and taken over.
-fn wanted(text: &[u8], lengths: Lengths, given: &Given) -> Result<Outcome, String> {
-    if lengths.too_short() {
-        return Ok(Outcome::Refused { number: 7, place: 0 });
-    }
-    let plan = match read(text) {
-        Ok(plan) => plan,
-        Err((number, place)) => return Ok(Outcome::Refused { number, place }),
-    };
-    match second::solve(&plan) {
-        Some(second::Solution { times, levels }) => Ok(Outcome::Solved { times, levels }),
-        None => true_chain(&plan, given),
+fn right(text: &[u8], lengths: Lengths) -> Right {
+    let plan = if lengths.too_short() { Err((7, 0)) } else { read(text) };
+    match plan {
+        Ok(plan) => second::solve(&plan).map_or(Right::Chain(plan), Right::Outcomes),
+        Err((number, place)) => Right::Outcomes(Sides::alike(Outcome::Refused { number, place })),
     }
 }
 
+/// The given chain is checked and taken over.
 fn true_chain(plan: &Plan, given: &Given) -> Result<Outcome, String> {
     same("number where there is no timetable", 1, given.number)?;
     let written = given.chain.entries().get(..given.place).ok_or(format!("{} chain steps", given.place))?;

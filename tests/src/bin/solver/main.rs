@@ -14,18 +14,20 @@ mod stack;
 use compare::{compare, compare_with, Lengths, LEAST};
 use outside::chance::Chance;
 use outside::generate::{self, Shape};
+use outside::known::{self, Known};
 use outside::limits::{self, Stated};
 use outside::outcome::Outcome;
 use outside::plan::Plan;
 use outside::reader::{read, Refusal};
+use outside::side::{Sides, BOTH};
 use outside::tally::{same, Group, Tally};
-use outside::{damage, enumerate, exhaustive, known};
+use outside::{damage, enumerate, exhaustive};
 use program::Program;
 use std::process::ExitCode;
 
 fn main() -> ExitCode {
-    if let Some((kind, kilobytes)) = stack::asked() {
-        return stack::solve(&kind, kilobytes);
+    if let Some((kind, kilobytes, side)) = stack::asked() {
+        return stack::solve(&kind, kilobytes, side);
     }
     let mut tally = Tally::default();
     tally.group("known plans", |group| known_plans(group, known::cases()));
@@ -50,10 +52,11 @@ fn main() -> ExitCode {
 
 fn the_program(tally: &mut Tally) {
     let program = Program::timetable();
-    tally.group("the program timetable", |group| program::printed_forms(group, &program));
-    tally.group("the program's input", |group| input::inputs(group, &program));
-    tally.group("the program's reads, interrupted and failing", |group| reads::answered(group, &program));
-    tally.group("the program's output", |group| output::outputs(group, &program));
+    on_both(tally, &program, "the program timetable", program::printed_forms);
+    tally.group("the program's words", |group| program::words(group, &program));
+    on_both(tally, &program, "the program's input", input::inputs);
+    on_both(tally, &program, "the program's reads, interrupted and failing", reads::answered);
+    on_both(tally, &program, "the program's output", output::outputs);
 }
 
 fn the_example(tally: &mut Tally) {
@@ -61,15 +64,20 @@ fn the_example(tally: &mut Tally) {
         Ok(program) => program,
         Err(why) => return tally.group("the C example", |group| group.case(b"", Err(why))),
     };
-    tally.group("the C example", |group| example::plans(group, &program));
-    tally.group("the C example's printed forms", |group| program::printed_forms(group, &program));
-    tally.group("the C example's input", |group| input::inputs(group, &program));
-    tally.group("the C example's output", |group| output::outputs(group, &program));
+    on_both(tally, &program, "the C example", example::plans);
+    on_both(tally, &program, "the C example's printed forms", program::printed_forms);
+    on_both(tally, &program, "the C example's input", input::inputs);
+    on_both(tally, &program, "the C example's output", output::outputs);
 }
 
-fn known_plans(group: &mut Group, cases: Vec<(Vec<u8>, Outcome)>) {
-    for (text, outcome) in cases {
-        group.case(&text, compare(&text).and_then(|given| same("outcome", &outcome, &given).map(|()| given.kind())));
+/// The cases of one group, first without a word, then with the one that asks for the earliest times.
+fn on_both(tally: &mut Tally, program: &Program, name: &str, cases: fn(&mut Group, &Program)) {
+    tally.group(name, |group| BOTH.into_iter().for_each(|side| cases(group, &program.on(side))));
+}
+
+fn known_plans(group: &mut Group, cases: Vec<Known>) {
+    for (text, outcomes) in cases {
+        group.case(&text, compare(&text).and_then(|given| same("outcomes", &outcomes, &given).map(|()| given.kind())));
     }
 }
 
@@ -84,8 +92,9 @@ fn stated_cases(group: &mut Group, cases: Vec<Stated>) {
     }
 }
 
-fn same_refusal(stated: Option<Refusal>, given: Outcome) -> Result<String, String> {
-    let refusal = match given {
+/// Both sides were refused alike, or neither.
+fn same_refusal(stated: Option<Refusal>, given: Sides<Outcome>) -> Result<String, String> {
+    let refusal = match given.latest {
         Outcome::Refused { number, place } => Some((number, place)),
         _ => None,
     };
@@ -160,12 +169,12 @@ fn exhaustive_case(group: &mut Group, plan: &Plan) {
     group.case(&text, compare(&text).and_then(|given| by_exhaustive_search(plan, &given).map(|()| given.kind())));
 }
 
-fn by_exhaustive_search(plan: &Plan, given: &Outcome) -> Result<(), String> {
-    match given {
-        Outcome::Solved { times, levels } => exhaustive::check_solved(plan, times, levels),
+fn by_exhaustive_search(plan: &Plan, given: &Sides<Outcome>) -> Result<(), String> {
+    BOTH.into_iter().try_for_each(|side| match given.on(side) {
+        Outcome::Solved { times, levels } => exhaustive::check_solved(plan, side, times, levels),
         Outcome::None { .. } => exhaustive::check_none(plan),
         Outcome::Refused { number, place } => Err(format!("refused {number} {place}")),
-    }
+    })
 }
 
 fn random_plans(group: &mut Group, count: usize) {

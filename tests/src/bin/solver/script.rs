@@ -1,4 +1,5 @@
 //! The script examples/run, with an `rt` before the toolchain's own that proves nothing.
+use crate::example::example_printed;
 use crate::process::{described, run, Given};
 use crate::program::root;
 use outside::tally::{same, Group};
@@ -17,14 +18,22 @@ pub fn script(group: &mut Group) {
         let verdict = run_script(rt, words).and_then(|given| compare(out, err, status, &given));
         group.case(b"", verdict.map_err(|why| format!("words {words:?}: {why}")));
     };
-    let file = |name: &str| std::fs::read_to_string(root().join("examples").join(name)).unwrap_or_default();
+    let (latest, earliest) = (example_printed("update.out"), example_printed("update.earliest.out"));
     case(RT_FAILS, &["/"], "", "/: Is a directory\n", 2);
     case(RT_FAILS, &["no.plan"], "", "no.plan: No such file or directory\n", 2);
     case(RT_FAILS, &[""], "", ": No such file or directory\n", 2);
+    case(RT_FAILS, &["earliest"], "", "earliest: No such file or directory\n", 2);
     case(RT_FAILS, &[], "", &format!("{FIRST}not proved\nrefused\n"), 1);
-    case(RT_PROVES, &[], &file("update.out"), FIRST, 0);
-    case(RT_PROVES, &["clash.plan"], &file("clash.out"), FIRST, 0);
+    case(RT_PROVES, &[], &latest, FIRST, 0);
+    case(RT_PROVES, &["update.plan", "earliest"], &earliest, FIRST, 0);
+    case(RT_PROVES, &["update.plan", "earliest", "latest"], &earliest, FIRST, 0);
+    // The words are handed on as they are: none is parted, joined or left out.
+    case(RT_PROVES, &["update.plan", "earliest latest"], &latest, FIRST, 0);
+    case(RT_PROVES, &["update.plan", "", "earliest"], &latest, FIRST, 0);
+    case(RT_PROVES, &["clash.plan"], &example_printed("clash.out"), FIRST, 0);
+    case(RT_PROVES, &["clash.plan", "earliest"], &example_printed("clash.out"), FIRST, 0);
     case(RT_PROVES, &["clash.out"], "refused\t2\t1\n", FIRST, 0);
+    case(RT_PROVES, &["clash.out", "earliest"], "refused\t2\t1\n", FIRST, 0);
 }
 
 /// Runs the script in the folder of the plans.

@@ -3,8 +3,10 @@
 use crate::{full_plan, full_plan_without_timetable};
 use outside::bounds::check_chain;
 use outside::library::solver as library;
+use outside::outcome::Outcome;
 use outside::reader::read;
 use outside::second;
+use outside::side::{Side, BOTH};
 use outside::tally::{same, Group};
 use std::process::{Command, ExitCode};
 
@@ -14,18 +16,23 @@ const KILOBYTES: usize = 128;
 /// The kinds of plans that are tried.
 const KINDS: [&str; 2] = ["solved", "none"];
 
-/// The kind and the size of the stack, where this process was started for that.
-pub fn asked() -> Option<(String, usize)> {
+/// The kind, the size of the stack and the side, where this process was started for that.
+pub fn asked() -> Option<(String, usize, Side)> {
     let words: Vec<String> = std::env::args().collect();
     match words.get(1..) {
-        Some([word, kind, kilobytes]) if word == WORD => Some((kind.clone(), kilobytes.parse().ok()?)),
+        Some([word, kind, kilobytes, rest @ ..]) if word == WORD => {
+            let side = BOTH.into_iter().find(|side| side.word() == rest.first().map(String::as_str))?;
+            Some((kind.clone(), kilobytes.parse().ok()?, side))
+        }
         _ => None,
     }
 }
 
 pub fn small_stack(group: &mut Group) {
     for kind in KINDS {
-        group.case(&text_of(kind), run_again(kind).map(|()| kind.to_string()));
+        for side in BOTH {
+            group.case(&text_of(kind), run_again(kind, side).map(|()| kind.to_string()));
+        }
     }
 }
 
@@ -37,20 +44,20 @@ fn text_of(kind: &str) -> Vec<u8> {
     }
 }
 
-fn run_again(kind: &str) -> Result<(), String> {
+fn run_again(kind: &str, side: Side) -> Result<(), String> {
     let this = std::env::current_exe().map_err(|error| error.to_string())?;
-    let run = Command::new(this).args([WORD, kind, &KILOBYTES.to_string()]).output();
+    let run = Command::new(this).args([WORD, kind, &KILOBYTES.to_string()]).args(side.word()).output();
     let done = run.map_err(|error| error.to_string())?;
     if done.status.success() {
         Ok(())
     } else {
-        Err(format!("{}: {}", done.status, String::from_utf8_lossy(&done.stderr)))
+        Err(format!("{side:?} times: {}: {}", done.status, String::from_utf8_lossy(&done.stderr)))
     }
 }
 
 /// What that other process does.
-pub fn solve(kind: &str, kilobytes: usize) -> ExitCode {
-    match solve_in_thread(text_of(kind), kilobytes) {
+pub fn solve(kind: &str, kilobytes: usize, side: Side) -> ExitCode {
+    match solve_in_thread(text_of(kind), kilobytes, side) {
         Ok(()) => ExitCode::SUCCESS,
         Err(why) => {
             eprintln!("in a stack of {kilobytes} KB: {why}");
@@ -61,20 +68,20 @@ pub fn solve(kind: &str, kilobytes: usize) -> ExitCode {
 
 /// The stack also holds the thread's own block (some 4 KB); its guard page lies beyond it. The areas are on the heap, and the
 /// outcome is checked outside.
-fn solve_in_thread(text: Vec<u8>, kilobytes: usize) -> Result<(), String> {
+fn solve_in_thread(text: Vec<u8>, kilobytes: usize, side: Side) -> Result<(), String> {
     let lent_text = text.clone();
     let (mut times, mut levels, mut chain) =
         (vec![0; library::TIMES_AREA], vec![0; library::LEVELS_AREA], vec![0; library::CHAIN_AREA]);
-    let work = move || (library::solve(&lent_text, &mut times, &mut levels, &mut chain), times, levels, chain);
+    let work = move || (library::solve(side, &lent_text, &mut times, &mut levels, &mut chain), times, levels, chain);
     let thread = std::thread::Builder::new().stack_size(kilobytes * 1024).spawn(work);
     let ended = thread.map_err(|error| error.to_string())?.join();
-    let ((number, place), times, levels, chain) = ended.map_err(|_| "the thread failed")?;
+    let ((number, place), times, mut levels, chain) = ended.map_err(|_| "the thread failed")?;
     let plan = read(&text).map_err(|refusal| format!("refused {refusal:?}"))?;
     match second::solve(&plan) {
         Some(right) => {
             same("number", 0, number)?;
-            same("times", right.times, times)?;
-            same("levels", &right.levels[..], &levels[..place])
+            levels.truncate(place);
+            same("outcome", right.on(side), &Outcome::Solved { times, levels })
         }
         None => {
             same("number", 1, number)?;

@@ -1,4 +1,4 @@
--- `solver::solve` meets its contract: an area too short is refused before the text is read; else what was read has its outcome.
+-- `solver::solve_on` meets its contract: an area too short is refused before the text is read; else what was read has its outcome.
 use mathlib.Core.Path.{sym, _∙_}
 use native.Mathlib.Nat.{le-refl}
 use borrow.Author.Needs.{needs}
@@ -7,8 +7,8 @@ use Rattle.meaning.specs.Plan.{MOST-LEVELS-TOGETHER}
 use Rattle.meaning.specs.Outcome.{Areas, areas}
 use Rattle.solver.specs.Solves.{ReadInto}
 use Rattle.solver.proofs.Heard.{short-solves}
-use Rattle.solver.proofs.solve.Statement.{statement}
-use Rattle.solver.proofs.solve.Tie as tie
+use Rattle.solver.proofs.solve_on.Statement.{statement}
+use Rattle.solver.proofs.solve_on.Tie as tie
 
 abbrev start : tie.After-long-enough → tie.Start
 start c =
@@ -79,8 +79,8 @@ returns-2 c =
     let held = at-outcome .before .before .before .before in
     at-outcome .outcome-of .ensures _ (read-into (held .before .before))
 
-pub solve-spec : {M : Type 1} → statement M
-solve-spec =
+pub solve-on-spec : {M : Type 1} → statement M
+solve-on-spec =
     tie.close
     (tie.spec long-enough-requires same-length same-length-2 same-length-3 returns slice-aggregate-read read-requires slice-aggregate-outcome-of
     outcome-of-requires same-length-4 same-length-5 same-length-6 returns-2)

@@ -1,0 +1,2 @@
+-- Which words ask for what.
+pub mod Asks

@@ -1,0 +1,2 @@
+-- What the program's first word asks for.
+pub mod Asked
