@@ -37,11 +37,11 @@ module _ (p : M.Plan) (c : ℕ) where
     name-lower o = rw (ne-eqb (c % 2) 0 o, e, f) (ap (bound _ _ _) (omega arith))
 
   module _ (l : HORIZON-CODES ≤ c) where
-    pub name-latest : c % 2 ≡ 0 → bound 0 ((c - HORIZON-CODES) / 2) (pos (p .horizon)) c ≡ ofHorizon p c
-    name-latest o = rw (eq-eqb (c % 2) 0 o) (ap (bound _ _ _) (omega arith))
+    pub name-horizon-upper : c % 2 ≡ 0 → bound 0 ((c - HORIZON-CODES) / 2) (pos (p .horizon)) c ≡ ofHorizon p c
+    name-horizon-upper o = rw (eq-eqb (c % 2) 0 o) (ap (bound _ _ _) (omega arith))
 
-    pub name-earliest : (c % 2 ≡ 0 → ⊥) → bound ((c - HORIZON-CODES) / 2) 0 (pos 0) c ≡ ofHorizon p c
-    name-earliest o = rw (ne-eqb (c % 2) 0 o) (ap (bound _ _ _) (omega arith))
+    pub name-horizon-lower : (c % 2 ≡ 0 → ⊥) → bound ((c - HORIZON-CODES) / 2) 0 (pos 0) c ≡ ofHorizon p c
+    name-horizon-lower o = rw (ne-eqb (c % 2) 0 o) (ap (bound _ _ _) (omega arith))
 
   pub name-record : c < HORIZON-CODES → named p c ≡ ofRecord p c
   unfolding named
@@ -69,13 +69,13 @@ module _ (p : M.Plan) where
           let q : (2 * k + 1) / 2 ≡ k = omega arith in
           name-record p (2 * k + 1) (omega arith) ∙ rw (ne-eqb ((2 * k + 1) % 2) 0 (λ e. omega arith), q)
 
-    latest-named : Named (horizonUpper (p .horizon) k)
-    latest-named =
+    horizon-upper-named : Named (horizonUpper (p .horizon) k)
+    horizon-upper-named =
         let q : (HORIZON-CODES + 2 * k - HORIZON-CODES) / 2 ≡ k = omega arith in
         name-horizon p (HORIZON-CODES + 2 * k) (omega arith) ∙ rw (eq-eqb ((HORIZON-CODES + 2 * k) % 2) 0 (omega arith), q)
 
-    earliest-named : Named (horizonLower k)
-    earliest-named =
+    horizon-lower-named : Named (horizonLower k)
+    horizon-lower-named =
         let q : (HORIZON-CODES + 2 * k + 1 - HORIZON-CODES) / 2 ≡ k = omega arith in
         name-horizon p (HORIZON-CODES + 2 * k + 1) (omega arith) ∙ rw (ne-eqb ((HORIZON-CODES + 2 * k + 1) % 2) 0 (λ e. omega arith), q)
 
@@ -83,7 +83,7 @@ module _ (p : M.Plan) where
 pub named-right : {p : M.Plan} → WithoutFault p → (b : Bound) → Given p b → named p (b .code) ≡ b
 named-right {p} g =
     each-bound p (Named p) (λ k l. (upper-named p k (omega (arith, l, g .few)), lower-named p k (omega (arith, l, g .few))))
-    (λ e some few. (latest-named p e, earliest-named p e))
+    (λ e some few. (horizon-upper-named p e, horizon-lower-named p e))
 
 -- ---- the codes of the bounds of a plan: those of its records, and those of the horizon for its events other than 0
 

@@ -77,7 +77,7 @@ pub fn solve(text: &[u8], times: &mut [i64], levels: &mut [u8], chain: &mut [u16
     solve_on(text, Side::Latest, times, levels, chain)
 }
 
-// The same for C: the number is returned, the place is stored.
+// What `solve_on` gives, for C: the number is returned, the place is stored.
 fn number_on(
     text: &[u8],
     side: Side,
@@ -94,6 +94,7 @@ fn number_on(
     settle::number_of(outcome)
 }
 
+// With the latest times.
 #[no_mangle]
 pub extern "C" fn timetable_solve(
     text: &[u8],
@@ -108,6 +109,7 @@ pub extern "C" fn timetable_solve(
     number_on(text, Side::Latest, times, levels, chain, place)
 }
 
+// With the earliest times.
 #[no_mangle]
 pub extern "C" fn timetable_solve_earliest(
     text: &[u8],
