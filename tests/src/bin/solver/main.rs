@@ -54,6 +54,7 @@ fn the_program(tally: &mut Tally) {
     let program = Program::timetable();
     on_both(tally, &program, "the program timetable", program::printed_forms);
     tally.group("the program's words", |group| program::words(group, &program));
+    tally.group("the program's longest word", |group| program::longest_word(group, &program));
     on_both(tally, &program, "the program's input", input::inputs);
     on_both(tally, &program, "the program's reads, interrupted and failing", reads::answered);
     on_both(tally, &program, "the program's output", output::outputs);

@@ -18,6 +18,9 @@ use std::process::{Command, Stdio};
 /// The stack that programs are run with, in kilobytes.
 const STACK: usize = 256;
 
+/// The bytes of the longest word that Linux hands to a program.
+const LONGEST_WORD: usize = 131_071;
+
 /// What a shell says to become the program.
 pub const EXEC: &str = "exec \"$0\" \"$@\"";
 
@@ -166,6 +169,16 @@ pub fn words(group: &mut Group, program: &Program) {
             let verdict = given.and_then(|given| program.printed(&printed(&plan, outcomes.on(*side)), &given));
             group.case(&text, verdict.map(|_| format!("{side:?}")));
         }
+    }
+}
+
+/// The known plans and a word as long as can be. Words stand on the program's stack, so that is not made small here.
+pub fn longest_word(group: &mut Group, program: &Program) {
+    let word = [&b"earliest"[..], &[b't'; LONGEST_WORD - 8]].concat();
+    for (text, _) in known::cases() {
+        let mut command = Command::new(&program.path);
+        command.arg(OsStr::from_bytes(&word)).stdout(Stdio::piped());
+        group.case(&text, run_on(command, &text).and_then(|given| program.outcome(&text, &given)));
     }
 }
 
