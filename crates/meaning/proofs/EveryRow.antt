@@ -151,7 +151,7 @@ module _ {p : Plan} (good : WithoutFault p) where
 
 -- ---- the test of a solved plan
 
--- each time is as far out as the other row's
+-- one time is as far out as another
 abbrev asFar : Side → ℤ → ℤ → Bool
 asFar Latest x y = leZ y x
 asFar Earliest x y = leZ x y
@@ -160,6 +160,7 @@ as-far : (s : Side) (x y : ℤ) → T (asFar s x y) → AsFar s x y
 as-far Latest x y h = leZ-yes h
 as-far Earliest x y h = leZ-yes h
 
+-- each time of a row is as far out as that of another row
 abbrev allAsFar : Side → List ℤ → List ℤ → Bool
 allAsFar s [] us = true
 allAsFar s (t ∷ ts) [] = false
