@@ -9,7 +9,7 @@ use lib.Dec.{T}
 use lib.ListN.{length}
 use lib.Seq.{slice, take-length}
 use Rattle.meaning.specs.Reading.{same}
-use Rattle.meaning.proofs.EveryRow.{is-same}
+use Rattle.meaning.proofs.All.{is-same}
 use Rattle.scope.specs.declared.Side.the-variants.{Latest, Earliest}
 use Rattle.asked.specs.Asked.{EARLIEST, sideOf}
 

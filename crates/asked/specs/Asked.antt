@@ -7,8 +7,10 @@ use Rattle.meaning.specs.Known.{bytes}
 use Rattle.scope.specs.declared.Side.{Side}
 use Rattle.scope.specs.declared.Side.the-variants.{Latest, Earliest}
 
+-- the word that asks for the earliest times
 abbrev pub EARLIEST : List ℕ
 EARLIEST = bytes "earliest"
 
+-- any other asks for nothing, and the latest are given
 abbrev pub sideOf : List ℕ → Side
 sideOf word = cond (same word EARLIEST) Earliest Latest

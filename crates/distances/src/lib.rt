@@ -165,7 +165,7 @@ pub fn narrow(d: &mut [i32], n: usize, a: usize, b: usize, lo: i32, hi: i32) -> 
     false
 }
 
-// The greatest time of event e, what its distance from the origin is bounded by; or the least, by its distance to the origin.
+// The greatest time of event e is the bound on its distance from the origin, the least that on its distance to the origin, negated.
 fn time_of(d: &[i32], side: Side, e: usize) -> i64
     requires { ⌜ Place e 0 (now d) ⌝ }
     ensures { λ r. ⌜ r ≡ outermost side (at (now (d .entry))) e ⌝ }

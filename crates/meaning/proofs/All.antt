@@ -1,12 +1,13 @@
--- Tests that compute, over the two sides, the members of a list and the lists of few members: what passes one, passes for each.
-use mathlib.Core.Path.{sym, subst, refl}
+-- Tests that compute: two lists compared; and over the two sides, the members of a list and the lists of few members, what passes one, passes for each.
+use mathlib.Core.Path.{_≡_, sym, subst, refl}
 use mathlib.Core.List.{List, [], _∷_, List·Memᴰ, List·Memᴰ·head, List·Memᴰ·tail, List·Memᴰ·not-nil}
 use mathlib.Core.Bool.{Bool, true, false, _&&_}
 use Prim.Native.Nat.{ℕ, zero, suc, _≤_}
 use native.Mathlib.Nat.{le-of-suc-le-suc, not-suc-le-zero}
-use lib.Dec.{T}
+use lib.Dec.{T, eqb, eqb→eq}
 use lib.ListN.{length}
 use mir.Facts.{and-yes, yes-and}
+use Rattle.meaning.specs.Reading.{same}
 use Rattle.scope.specs.declared.Side.{Side}
 use Rattle.scope.specs.declared.Side.the-variants.{Latest, Earliest}
 
@@ -18,6 +19,13 @@ implies false b = true
 pub implied : (a b : Bool) → T (implies a b) → T a → T b
 implied true b t s = t
 implied false b t s = absurd s
+
+-- lists that compare as the same are the same
+pub is-same : (x y : List ℕ) → T (same x y) → x ≡ y
+is-same [] [] h = refl
+is-same [] (y ∷ ys) h = absurd h
+is-same (x ∷ xs) [] h = absurd h
+is-same (x ∷ xs) (y ∷ ys) h = let b = and-yes (eqb x y) (same xs ys) h in λ i. eqb→eq x y (b .0) i ∷ is-same xs ys (b .1) i
 
 -- either side passes
 abbrev pub bothSides : (Side → Bool) → Bool

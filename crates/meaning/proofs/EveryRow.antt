@@ -18,7 +18,7 @@ use Rattle.meaning.specs.Reading.{same}
 use Rattle.meaning.specs.Faultless.{WithoutFault}
 use Rattle.scope.specs.declared.Side.{Side}
 use Rattle.scope.specs.declared.Side.the-variants.{Latest, Earliest}
-use Rattle.meaning.proofs.All.{implies, implied}
+use Rattle.meaning.proofs.All.{implies, implied, is-same}
 use Rattle.meaning.proofs.Times.{timesFrom, times-at}
 use Rattle.meaning.proofs.Agree.{agree-levels, agree-timetable}
 
@@ -175,12 +175,6 @@ all-as-far s (t ∷ ts) (u ∷ us) h (suc e) l = all-as-far s ts us (and-yes (as
 -- the row us, whose replies are y, is not better than ts, whose replies are x, and where it is not worse, none of its times is further out
 abbrev notAhead : Side → List ℤ → List ℤ → List Bool → List Bool → Bool
 notAhead s ts us x y = let k = implies (not (better x y)) (allAsFar s ts us) in not (better y x) && k
-
-pub is-same : (x y : List ℕ) → T (same x y) → x ≡ y
-is-same [] [] h = refl
-is-same [] (y ∷ ys) h = absurd h
-is-same (x ∷ xs) [] h = absurd h
-is-same (x ∷ xs) (y ∷ ys) h = let b = and-yes (eqb x y) (same xs ys) h in λ i. eqb→eq x y (b .0) i ∷ is-same xs ys (b .1) i
 
 -- the row itself is a timetable of the plan with these levels, and no timetable is ahead of it
 abbrev pub solvedTest : Side → Plan → List ℤ → List ℕ → Bool

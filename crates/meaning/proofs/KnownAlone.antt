@@ -13,9 +13,8 @@ use Rattle.meaning.specs.Reading.{Reading, plan, refused, read, same, sp
 use Rattle.meaning.specs.Outcome.{Outcome, solved, none, refusal, Right}
 use Rattle.meaning.specs.Known.{Known, bytes, table}
 use Rattle.scope.specs.declared.Side.{Side}
-use Rattle.meaning.proofs.All.{bothSides, each-side, implies, implied, all-each, lists, lists-each}
+use Rattle.meaning.proofs.All.{is-same, bothSides, each-side, implies, implied, all-each, lists, lists-each}
 use Rattle.meaning.proofs.ReadGood.{read-faultless}
-use Rattle.meaning.proofs.EveryRow.{is-same}
 use Rattle.meaning.proofs.ChainTest.{codes, stepsTest, chain-steps}
 use Rattle.meaning.proofs.KnownRight.{known-right}
 use Rattle.meaning.proofs.Promises.{Faultless, Same, equal, chains, one-outcome}

@@ -93,7 +93,7 @@ fn stated_cases(group: &mut Group, cases: Vec<Stated>) {
     }
 }
 
-/// Both sides were refused alike, or neither.
+/// The sides are refused alike (`compare` has seen to it), so one of them is looked at.
 fn same_refusal(stated: Option<Refusal>, given: Sides<Outcome>) -> Result<String, String> {
     let refusal = match given.latest {
         Outcome::Refused { number, place } => Some((number, place)),
