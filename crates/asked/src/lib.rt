@@ -1,4 +1,6 @@
 // What the program's first word asks for.
+#![tactic(auto)]
+
 ghost use Rattle.std.specs.Prelude.{◌≡◌};
 ghost use Rattle.asked.specs.Asked.{side_of};
 

@@ -1,4 +1,6 @@
 // When a bound fails: the closed chain that it makes with the bounds before it.
+#![tactic(auto)]
+
 ghost use Rattle.std.specs.Prelude.{◌≡◌, ℕ, ◌+◌, ◌*◌, ◌≤◌, ◌<◌, length};
 ghost use Rattle.std.specs.Int.Count.{ones};
 ghost use Rattle.eventset.specs.Sets.{bits_of};
@@ -13,7 +15,7 @@ use scope::{MOST_BOUNDS, MOST_EVENTS};
 const NOTES: usize = 2 * MOST_EVENTS;
 
 // The event `end` comes at most `weight` after the event `start`.
-#[derive(Drop)]
+#[derive(Clone, Copy)]
 pub struct Bound {
     pub start: u8,
     pub end: u8,

@@ -1,4 +1,6 @@
 // The bound that a code names.
+#![tactic(auto)]
+
 ghost use Rattle.std.specs.Prelude.{◌≡◌, ℕ, ◌/◌, ◌≤◌};
 ghost use Rattle.meaning.specs.Plan as M;
 ghost use Rattle.meaning.specs.Plan.{record_at};
@@ -28,7 +30,7 @@ pub fn is_code(events: usize, records: usize, c: u16) -> bool
 }
 
 // A step of a chain: its bound's two events, its weight and its code.
-#[derive(Drop)]
+#[derive(Clone, Copy)]
 pub struct Step {
     pub from: u16,
     pub to: u16,

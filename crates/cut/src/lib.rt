@@ -1,4 +1,6 @@
 // The cut: the run of a grade in a wish's levels, looked for from both ends inward where they stand, and the distances that a record allows.
+#![tactic(auto)]
+
 ghost use Rattle.std.specs.Prelude.{◌≡◌, ◌+◌, ◌≤◌, length, pos, ◌+ℤ◌};
 ghost use Rattle.std.proofs.Math.Seq.{slice};
 ghost use Rattle.meaning.specs.Run.{run_first, run_past};
@@ -8,7 +10,7 @@ use plan::Record;
 use scope::LEAST_LEVEL;
 
 // The first and the last of some distances.
-#[derive(Drop)]
+#[derive(Clone, Copy)]
 pub struct Ends {
     pub lo: i32,
     pub hi: i32,

@@ -1,4 +1,6 @@
 // Closed distances in code: STRIDE rows of STRIDE signed entries in one slice, of which the first n rows and columns are in use.
+#![tactic(auto)]
+
 ghost use Rattle.std.specs.Prelude.{◌≡◌, ◌*◌, ◌≤◌, ◌<◌, length, get_or, pos, ◌+ℤ◌};
 ghost use Rattle.meaning.specs.Distances.{added, horizon_only, outermost};
 ghost use Rattle.meaning.specs.Plan.{most_horizon};

@@ -1,4 +1,6 @@
 // Sets of events as the bits of two unsigned words.
+#![tactic(auto)]
+
 ghost use Rattle.std.specs.Prelude.{◌≡◌, ◌<◌};
 ghost use Rattle.std.specs.Int.Count.{ones, count_trailing_zeros};
 ghost use Rattle.eventset.specs.Sets.{word_width, set_width, bits_of, member, put_in};
@@ -7,7 +9,7 @@ ghost use Rattle.eventset.specs.Sets.{word_width, set_width, bits_of, member, pu
 const WORD: usize = 64;
 
 // The events below WORD are bits of the low word, those from there on of the high one.
-#[derive(Drop)]
+#[derive(Clone, Copy)]
 pub struct EventSet {
     pub low: u64,
     pub high: u64,

@@ -1,4 +1,6 @@
 // The faults of a plan's records and of its first line: the tests of section 3 and of T-04, in their order, on numbers and on levels in memory.
+#![tactic(auto)]
+
 ghost use Rattle.std.specs.Prelude.{◌≡◌, ◌&&◌, ◌||◌, [], ◌∷◌, ◌≤◌, ◌<◌, length, ltb};
 ghost use Rattle.std.proofs.Math.Seq.{slice};
 ghost use Rattle.meaning.specs.Plan.{most_events, most_levels_together};
@@ -18,7 +20,7 @@ pub const NO_FAULT: u8 = 0;
 const MOST_EVENTS: i32 = scope::MOST_EVENTS as i32;
 
 // The two events and the two ends of a record.
-#[derive(Drop)]
+#[derive(Clone, Copy)]
 pub struct Span {
     pub a: i32,
     pub b: i32,
@@ -27,7 +29,7 @@ pub struct Span {
 }
 
 // What the tests of a line need of the plan read so far: its events, its records, and the levels that these have together.
-#[derive(Drop)]
+#[derive(Clone, Copy)]
 pub struct SoFar {
     pub events: usize,
     pub records: usize,

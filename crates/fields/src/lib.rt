@@ -1,4 +1,6 @@
 // A line of a text as far as it is read: its word, and its fields one after the other.
+#![tactic(auto)]
+
 ghost use Rattle.std.specs.Prelude.{◌≡◌, ◌≤◌, ◌<◌, length};
 ghost use Rattle.meaning.specs.Plan.{most_bytes};
 ghost use Rattle.fields.specs.Fields.{begun, with_number, FieldRead};
@@ -8,7 +10,7 @@ use text::{Number, Word};
 const TAB: u8 = 9;
 
 // A line as far as it is read: its number, its word, the place where its word ends, how many numbers were read, and the first four of them.
-#[derive(Drop)]
+#[derive(Clone, Copy)]
 pub struct Line {
     pub number: usize,
     pub word: Word,
@@ -18,7 +20,7 @@ pub struct Line {
 }
 
 // The field behind a tab: its number and the place where it ends, or that it is no number.
-#[derive(Drop)]
+#[derive(Clone, Copy)]
 pub enum Field {
     Number(i32, usize),
     Wrong,

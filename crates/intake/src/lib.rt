@@ -1,11 +1,13 @@
 // A text read from a file descriptor up to its end, or a failure.
+#![tactic(auto)]
+
 ghost use Rattle.std.specs.Prelude.{◌≡◌, ◌+◌, ◌≤◌, length};
 ghost use Rattle.std.specs.Int.{w64};
 ghost use Rattle.std.proofs.Common.{Fits};
 ghost use Rattle.intake.specs.Gathered.{gives, next_of, Came, Gathered};
 
 // What is done after a read: go on with so many bytes, hand on so many, or say that it failed; errno says why.
-#[derive(Drop)]
+#[derive(Clone, Copy)]
 enum Next {
     On(usize),
     Whole(usize),
@@ -13,7 +15,7 @@ enum Next {
 }
 
 // What a text came to: its bytes at the front of the area, as many as this, or a read that failed.
-#[derive(Drop)]
+#[derive(Clone, Copy)]
 pub enum Text {
     Whole(usize),
     Failed,

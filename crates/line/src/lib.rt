@@ -1,4 +1,6 @@
 // What one line of a text gives: the tests of section 3 and of T-04 in their order, and the record that it adds to the plan.
+#![tactic(auto)]
+
 ghost use Rattle.std.specs.Prelude.{◌≡◌, List, ℕ, ◌+◌, ◌-◌, ◌≤◌, ◌<◌, length, ℤ, nat_abs};
 ghost use Rattle.std.proofs.Math.Seq.{slice};
 ghost use Rattle.meaning.specs.Plan.{most_levels, most_levels_together, most_bytes};
@@ -21,7 +23,7 @@ const TOP_LEVEL: i32 = scope::TOP_LEVEL as i32;
 const NO_LEVEL: u8 = scope::TOP_LEVEL + 1;
 
 // What a line gives: a fault, the number of events and the horizon, or one record more.
-#[derive(Drop)]
+#[derive(Clone, Copy)]
 pub enum Effect {
     Fault(u8),
     Head(usize, u32),

@@ -36,6 +36,7 @@ BothAt C H e = C (horizon_upper H e) × C (horizon_lower e)
 module _ (C : Bound → Type 0) where
   each_record : (k : ℕ) (rs : List Record) → ((i j : ℕ) → j ≡ k + i → i < length rs → Both C j (get_or rs i nothing))
       → (b : Bound) → Memᴰ b (record_bounds k rs) → C b
+  each_record k [] f b x'' = elim x'' [ ]
   each_record k (r ∷ rs) f b (Memᴰ.head e) = subst C (sym e) (f 0 k (omega arith) (omega arith)).0
   each_record k (r ∷ rs) f b (Memᴰ.tail (Memᴰ.head e)) = subst C (sym e) (f 0 k (omega arith) (omega arith)).1
   each_record k (r ∷ rs) f b (Memᴰ.tail (Memᴰ.tail m)) = each_record (suc k) rs (λ i j e h. f (suc i) j (omega arith) (suc-le-suc h)) b m

@@ -44,6 +44,7 @@ found c (b ∷ bs) h = go (eqb b.code c) (eqb→eq b.code c) h (found c bs)
 
 -- a member's code is found
 has_code : (b : Bound) (bs : List Bound) → Memᴰ b bs → T (has b.code bs)
+has_code b [] m = elim m [ ]
 has_code b (x ∷ bs) m = go (eqb x.code b.code) m (λ e. yes_eqb (λ i. (sym e i).code)) (has_code b bs)
   where
     go : (t : Bool) → Memᴰ b (x ∷ bs) → (b ≡ x → T t) → (Memᴰ b bs → T (has b.code bs)) → T (t || has b.code bs)

@@ -96,6 +96,7 @@ least_of_lem {j = j} (step {b = b} {bs = bs} l) = go (least_of_lem l) (dec_le b.
 -- ---- the events of a round: each that a step leaves, another enters
 
 pub starts_on_way : {i j : ℕ} {bs : List Bound} → Leads i bs j → (v : ℕ) → Memᴰ v (starts bs) → Memᴰ v (i ∷ ends bs)
+starts_on_way (stop {s = s}) v x5 = elim x5 [ ]
 starts_on_way (step l) v (Memᴰ.head e) = Memᴰ.head e
 starts_on_way (step l) v (Memᴰ.tail m) = Memᴰ.tail (starts_on_way l v m)
 

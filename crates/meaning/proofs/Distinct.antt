@@ -11,6 +11,7 @@ use mir.Facts.{and_yes, yes_and}
 use Rattle.meaning.specs.Bounds.{absent, distinct}
 
 pub absent_not : (x : ℕ) (ys : List ℕ) → T (absent x ys) → Memᴰ x ys → ⊥
+absent_not x [] t x3 = elim x3 [ ]
 absent_not x (y ∷ ys) t (Memᴰ.head e) = T_not (eqb x y) (and_yes (not (eqb x y)) (absent x ys) t).0 (subst (λ (z : ℕ). T (eqb x z)) e (eqb_refl x))
 absent_not x (y ∷ ys) t (Memᴰ.tail m) = absent_not x ys (and_yes (not (eqb x y)) (absent x ys) t).1 m
 
@@ -51,6 +52,7 @@ distinct_right [] ys p = p
 distinct_right (x ∷ xs) ys p = distinct_right xs ys (distinct_tail x (xs ++ ys) p)
 
 pub distinct_apart : (xs ys : List ℕ) → T (distinct (xs ++ ys)) → Disjoint xs ys
+distinct_apart [] ys p v x3 n = elim x3 [ ]
 distinct_apart (x ∷ xs) ys p v (Memᴰ.head e) n = distinct_head x (xs ++ ys) p (Memᴰ.append_right xs (Memᴰ.cast (sym e) n))
 distinct_apart (x ∷ xs) ys p v (Memᴰ.tail m) n = distinct_apart xs ys (distinct_tail x (xs ++ ys) p) v m n
 

@@ -125,6 +125,7 @@ one_plan e f = cc
 case_7_given : (b : Bound) → Memᴰ b case_7_steps → Given case_7 b
 case_7_given b (Memᴰ.head e) = Memᴰ.cast e (given_upper case_7 2 (omega arith))
 case_7_given b (Memᴰ.tail (Memᴰ.head e)) = Memᴰ.cast e (given_lower case_7 1 (omega arith))
+case_7_given b (Memᴰ.tail (Memᴰ.tail (Memᴰ.tail x12))) = elim x12 [ ]
 case_7_given b (Memᴰ.tail (Memᴰ.tail (Memᴰ.head e))) = Memᴰ.cast e (given_lower case_7 0 (omega arith))
 
 pub case_7_short : (p : Plan) → read (bytes case_7_text) ≡ plan p → ShortBy p (4 ∷ 3 ∷ 1 ∷ []) 1

@@ -36,18 +36,30 @@ pub record Parted (i v j : ℕ) (bs : List Bound) : Type 0 where
   pub comes : Leads i front v
   pub goes : Leads v back j
 
--- at each event on the way they can be
-pub part : {i j : ℕ} {bs : List Bound} → Leads i bs j → (v : ℕ) → Memᴰ v (i ∷ ends bs) → Parted i v j bs
-part {i} {j} {bs} l v (Memᴰ.head e) = record {
+-- at the first event, with nothing in front
+part_here : {i j : ℕ} {bs : List Bound} → Leads i bs j → (v : ℕ) → v ≡ i → Parted i v j bs
+part_here {i} {j} {bs} l v e = record {
   front = [];
   back = bs;
   whole = refl;
   comes = subst (λ (z : ℕ). Leads i [] z) (sym e) stop;
   goes = subst (λ (z : ℕ). Leads z bs j) (sym e) l;
 }
-part (step {b = b} l) v (Memᴰ.tail m) =
-    let p = part l v m in
-    record { front = b ∷ p.front; back = p.back; whole = ap {B = List Bound} (λ z. b ∷ z) p.whole; comes = step p.comes; goes = p.goes }
+
+-- one bound more in front
+part_behind : {v j : ℕ} {bs : List Bound} → (b : Bound) → Parted b.end v j bs → Parted b.start v j (b ∷ bs)
+part_behind b p = record {
+  front = b ∷ p.front;
+  back = p.back;
+  whole = ap {B = List Bound} (λ z. b ∷ z) p.whole;
+  comes = step p.comes;
+  goes = p.goes;
+}
+
+-- at each event on the way they can be
+pub part : {i j : ℕ} {bs : List Bound} → Leads i bs j → (v : ℕ) → Memᴰ v (i ∷ ends bs) → Parted i v j bs
+part stop v m = ⊎_elim (λ e. part_here stop v e) (λ n. absurd (Memᴰ.not-nil n)) (Memᴰ.cases_cons m)
+part (step {b = b} l) v m = ⊎_elim (λ e. part_here (step l) v e) (λ n. part_behind b (part l v n)) (Memᴰ.cases_cons m)
 
 -- ---- walks along given bounds
 
@@ -138,6 +150,7 @@ module _ {n : ℕ} {G : Bound → Type 0} {D : Distances} where
   -- so each step is tight towards the end
   pub step_tight : Closed n D → {i j : ℕ} {bs : List Bound} → i < n → j < n → Leads i bs j → total bs ≡ D i j → AllKnown n G D bs →
       (b : Bound) → Memᴰ b bs → D b.start j ≡ b.weight +ℤ D b.end j
+  step_tight c hi hj stop s k x m = elim m [ ]
   step_tight c {j = j} hi hj (step {b = b} {bs = bs} l) s k x m = go (λ q. step_tight c h hj l tight rest x q) m
     where
       h : b.end < n

@@ -1,11 +1,13 @@
 // The plan in memory.
+#![tactic(auto)]
+
 ghost use Rattle.meaning.specs.Reading.{empty};
 ghost use Rattle.plan.specs.Held.{Holds};
 
 use scope::MOST_RECORDS;
 
 // A rule (count 0), or a wish, whose levels are the count ones from first on in the area of all levels.
-#[derive(Drop)]
+#[derive(Clone, Copy)]
 pub struct Record {
     pub a: u8,
     pub b: u8,
@@ -16,7 +18,7 @@ pub struct Record {
 }
 
 // The first `count` records are the plan's; its wishes have `used` levels together.
-#[derive(Drop)]
+#[derive(Clone, Copy)]
 pub struct Plan {
     pub events: usize,
     pub horizon: u32,

@@ -1,4 +1,6 @@
 // The reader for Rust and C, one number a call.
+#![tactic(auto)]
+
 ghost use Rattle.std.specs.Prelude.{◌≡◌};
 ghost use Rattle.reader.specs.Heard.{number, place};
 ghost use Rattle.plan_c.specs.Asked.{Asked, number_in, place_in, head_of, head_in, field_of, field_in};

@@ -1,4 +1,6 @@
 // Lines of words and numbers, put into a lent area: from the place `at` on; the answer is the place after.
+#![tactic(auto)]
+
 ghost use Rattle.std.specs.Prelude.{◌≡◌, ◌∷◌, ◌+◌, ◌≤◌, ◌<◌, pos, nat_abs, ◌<ℤ◌, length};
 ghost use Rattle.meaning.specs.Reading.{tab_byte};
 ghost use Rattle.print.specs.Written.{decimal, decimal_z, Wrote};

@@ -1,4 +1,6 @@
 // The reader of a plan text: the walk over its lines up to the first fault.
+#![tactic(auto)]
+
 ghost use Rattle.std.specs.Prelude.{◌≡◌, ◌≤◌, length};
 ghost use Rattle.meaning.specs.Plan.{most_levels_together, most_bytes};
 ghost use Rattle.meaning.specs.Reading.{empty};
@@ -13,13 +15,13 @@ use scope::{AREA_TOO_SHORT, MOST_BYTES, MOST_LEVELS_TOGETHER, TOO_MANY, WRONG_FO
 
 const LINE_FEED: u8 = 10;
 
-#[derive(Drop)]
+#[derive(Clone, Copy)]
 pub enum Verdict {
     Taken,
     Refused(u8, usize),
 }
 
-#[derive(Drop)]
+#[derive(Clone, Copy)]
 pub struct Answer {
     pub verdict: Verdict,
     pub plan: Plan,

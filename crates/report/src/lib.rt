@@ -1,4 +1,6 @@
 // From a plan text to the printed form of its outcome.
+#![tactic(auto)]
+
 ghost use Rattle.std.specs.Prelude.{List, ℕ, ◌≤◌, length};
 ghost use Rattle.solver.specs.Solves.{ReadInto};
 ghost use Rattle.forms.specs.Put.{area_room};

@@ -1,5 +1,6 @@
 // The numbers of documents 01 and 02, each of them once. `meaning/specs` says the same numbers for the definitions; the proofs hold the two to each other.
 // And the one choice that a caller has (T-02), which the definitions take from here.
+#![tactic(auto)]
 
 // What is allowed: section 1. The ends lo and hi lie between -MOST_END and MOST_END.
 pub const MOST_EVENTS: usize = 128;
@@ -47,7 +48,7 @@ pub const AREA_TOO_SHORT: u8 = 7;
 pub const NOTHING_ALLOWED: u8 = 8;
 
 // Which of the best timetables is given: the one with the greatest time of each event, or the one with the least.
-#[derive(Drop)]
+#[derive(Clone, Copy)]
 pub enum Side {
     Latest,
     Earliest,

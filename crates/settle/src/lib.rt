@@ -1,4 +1,6 @@
 // The outcome of a plan in memory: its bounds are added, and the ladder is climbed or the clash is shown.
+#![tactic(auto)]
+
 ghost use Rattle.std.specs.Prelude.{◌≡◌};
 ghost use Rattle.meaning.specs.Plan as M;
 ghost use Rattle.meaning.specs.Outcome.{areas};
@@ -10,7 +12,7 @@ use plan::Plan;
 use scope::{NO_TIMETABLE, SOLVED, Side};
 
 // What a text comes to: times and levels with the count of wishes, a chain with the count of its steps, or a refusal with its number and place.
-#[derive(Drop)]
+#[derive(Clone, Copy)]
 pub enum Outcome {
     Solved(usize),
     NoTimetable(usize),

@@ -1,4 +1,6 @@
 // By how many ticks a chain of codes falls short in a plan.
+#![tactic(auto)]
+
 ghost use Rattle.std.specs.Prelude.{◌≡◌, map, ◌≤◌, ◌<◌, length};
 ghost use Rattle.eventset.specs.Sets.{set_width, bits_of};
 ghost use Rattle.meaning.specs.Plan as M;

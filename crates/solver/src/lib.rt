@@ -1,4 +1,6 @@
 // The entry points with the promise: a text is read, and its plan is settled; or the codes of a chain are looked at.
+#![tactic(auto)]
+
 ghost use Rattle.std.specs.Prelude.{◌≡◌, true, List, ℕ};
 ghost use Rattle.meaning.specs.Outcome.{Promise, areas, long_enough};
 ghost use Rattle.meaning.specs.Reading.{read};

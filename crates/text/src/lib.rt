@@ -1,4 +1,6 @@
 // Numbers and words read from a slice of bytes: what stands from `at` up to `end`.
+#![tactic(auto)]
+
 ghost use Rattle.std.specs.Prelude.{◌≡◌, ◌+◌, ◌≤◌, length};
 ghost use Rattle.std.proofs.Math.Seq.{slice};
 ghost use Rattle.text.specs.Bytes.{until};
@@ -19,7 +21,7 @@ pub fn find(s: &[u8], at: usize, end: usize, b: u8) -> usize
 const MOST_DIGITS: usize = 7;
 
 // What a run of digits says: its value, or the place where reading stopped.
-#[derive(Drop)]
+#[derive(Clone, Copy)]
 enum Digits {
     Value(usize),
     Stopped(usize),
@@ -67,7 +69,7 @@ fn read_digits(s: &[u8], at: usize, end: usize) -> Digits
 }
 
 // A number of section 2, or the place where reading stopped.
-#[derive(Drop)]
+#[derive(Clone, Copy)]
 pub enum Number {
     Value(i32),
     Stopped(usize),
@@ -117,7 +119,7 @@ pub fn is_word(s: &[u8], at: usize, end: usize, w: &[u8]) -> bool
     true
 }
 
-#[derive(Drop)]
+#[derive(Clone, Copy)]
 pub enum Word {
     Events,
     Rule,

@@ -1,4 +1,6 @@
 // Signed numbers: the leaf functions that the crates above share. Each is inlined; its contract gives a clean fact of ℤ.
+#![tactic(auto)]
+
 ghost use Rattle.std.specs.Prelude.{◌≡◌, ◌&&◌, neg_ℤ, ◌+ℤ◌};
 ghost use Rattle.std.specs.Int.Signed.{le_z, lt_z};
 ghost use Rattle.std.specs.Int.{w32};

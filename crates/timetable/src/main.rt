@@ -1,5 +1,7 @@
 // The program: reads a plan text from standard input, and prints its outcome, with the latest times unless its first word asks for the earliest. Where the
 // text cannot be read whole it prints nothing, and says why on standard error; so it does where the outcome cannot be written whole.
+#![tactic(auto)]
+
 use intake::Text;
 use libc::{STDIN_FILENO, STDOUT_FILENO};
 use scope::Side;

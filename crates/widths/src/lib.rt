@@ -1,4 +1,6 @@
 // One number in another width: every cast of the tree stands here. Each is inlined; its contract says that the number is the same.
+#![tactic(auto)]
+
 ghost use Rattle.std.specs.Prelude.{◌≡◌, ◌<◌, T, pos, nat_abs};
 ghost use Rattle.std.specs.Int.Signed.{non_neg};
 
