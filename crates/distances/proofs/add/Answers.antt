@@ -1,6 +1,6 @@
 -- `distances::add` meets its contract: the test asks whether the sum around is not negative, as `changed_net` wants it.
-use mathlib.Core.Path.{◌≡◌, refl, sym, ◌∙◌}
-use mathlib.Core.Bool.{true≢false, false≢true}
+use mathlib.Core.Path.{◌≡◌, sym, ◌∙◌}
+use mathlib.Core.Bool.{true≢false}
 use lib.IntN.{pos, ◌+ℤ◌}
 use lib.Signed.{le_z}
 use mir.Facts.{to_z-of_z}
@@ -27,9 +27,6 @@ test c =
     let sum = rw e.ensures at (simp (back w32 e.result e.type_inv, to_z-of_z c.ranges.w) at p.ensures) in
     rw (back w32 p.result p.type_inv, sum) at c.at_most.ensures
 
-pub tighten-requires : goal.tighten-requires
-tighten-requires c = rw (to_z-of_z c.ranges.w) c.requires
-
 pub returns-then-at_most : goal.returns-then-at_most
 returns-then-at_most c =
     let p = c.requires in
@@ -40,13 +37,4 @@ returns-then-at_most c =
       taken = λ e. changed;
       refused = λ e. absurd (true≢false e);
       net = λ {H} net. changed_net c.args.a c.args.b c.args.w net p.from p.to (record { le = rw (← ok) tt }) changed;
-    }
-
-pub returns : goal.returns
-returns c =
-    record {
-      answer = sym c.if-at_most.false ∙ test (goal.at.returns c).After-at_most;
-      taken = λ e. absurd (false≢true e);
-      refused = λ e. refl;
-      net = λ {H} net. net;
     }

@@ -1,20 +1,10 @@
 -- `distances::insert` meets its contract: the rows so far hold the sums over a and b, the next one is still as it was, and via is row b as it was.
-use mathlib.Core.Path.{sym, ◌∙◌}
+use mathlib.Core.Path.{◌∙◌}
 use native.Mathlib.Omega.{arith}
 use mir.Facts.{to_z-of_z}
 use Rattle.distances.proofs.Range.{net_near}
-use Rattle.distances.proofs.Sweep.{swept_front}
-use Rattle.distances.proofs.Rows.{So-far, rows_none, rows_next, rows_all, one_more}
+use Rattle.distances.proofs.Rows.{rows_next, one_more}
 use Rattle.distances.proofs.insert.Goals as goal
-
-pub copy_row-requires : goal.copy_row-requires
-copy_row-requires c =
-    let asked = c.requires in
-    let net = asked.net in
-    record { size = net.size; which = omega (arith, asked.to, net.events); events = net.events; room = net.events }
-
-pub loop-i-init : goal.loop-i-init
-loop-i-init c = record { most = omega arith; rows = rows_none; long = c.copy_row.ensures.long; via_is = swept_front c.copy_row.ensures }
 
 pub insert_row-requires : goal.insert_row-requires
 insert_row-requires c =
@@ -37,6 +27,3 @@ insert_row-requires c =
 
 pub loop-i-preserved : goal.loop-i-preserved
 loop-i-preserved c = one_more c.requires.net.events c.loop-i-test.true c.loop-i.invariant c.insert_row.ensures
-
-pub returns : goal.returns
-returns c = rw (to_z-of_z c.ranges.w) at (rows_all {m' = c.args.n} c.loop-i.invariant.rows c.loop-i.invariant.most (omega arith))

@@ -8,17 +8,11 @@ use mir.Syntax.{w32}
 use mir.Val.{to_z, of_z}
 use Rattle.distances.specs.Matrix.{at}
 use Rattle.ticks.proofs.Ticks.{back}
-use Rattle.distances.proofs.Range.{nearby, nearby_fits}
+use Rattle.distances.proofs.Range.{nearby}
 use Rattle.distances.proofs.Sweep.{swept_same}
 use Rattle.distances.proofs.Rows.{row_kept}
 use Rattle.distances.proofs.insert_row.Goals as goal
 use Rattle.distances.proofs.insert_row.Goals.{After-plus-s}
-
-pub plus-s-requires : goal.plus-s-requires
-plus-s-requires c =
-    let e = c.distance in
-    simp (back w32 e.result e.type_inv, to_z-of_z c.ranges.w)
-    (rw e.ensures (nearby_fits _ (nearby _ _ (c.requires.range _ c.requires.from) c.requires.weight)))
 
 -- the sum, as it is passed on
 sum : (c : After-plus-s) → to_z w32 (of_z w32 c.plus-s.result) ≡ at c.args.d.now c.args.i c.args.a +ℤ c.args.w
@@ -38,9 +32,6 @@ lower_row-requires c =
       base_range = rw (sum (goal.at.lower_row-requires c).After-plus-s) (nearby _ _ (s.range _ s.from) s.weight);
       range = s.via_range;
     }
-
-pub returns-then-less : goal.returns-then-less
-returns-then-less c = rw (sum (goal.at.returns-then-less c).After-plus-s) at c.lower_row.ensures
 
 pub returns-else-less : goal.returns-else-less
 returns-else-less c =

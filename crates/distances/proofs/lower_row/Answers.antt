@@ -3,15 +3,11 @@ use Prim.Native.Nat.{◌+◌, ◌*◌}
 use mathlib.Core.Path.{ap₂, ◌∙◌}
 use native.Mathlib.Omega.{arith}
 use mir.Syntax.{w32}
-use mir.Facts.{to_z-of_z}
 use Rattle.ticks.specs.Min.{min_z}
 use Rattle.ticks.proofs.Ticks.{back}
 use Rattle.distances.specs.Matrix.{stride}
-use Rattle.distances.proofs.Sweep.{swept_none, swept_more, swept_next, swept_all}
+use Rattle.distances.proofs.Sweep.{swept_more, swept_next}
 use Rattle.distances.proofs.lower_row.Goals as goal
-
-pub loop-j-init : goal.loop-j-init
-loop-j-init c = swept_none
 
 pub loop-j-preserved : goal.loop-j-preserved
 loop-j-preserved c =
@@ -21,8 +17,5 @@ loop-j-preserved c =
     let t = c.item in
     let sum = rw (back w32 t.result t.type_inv, t.ensures) at p.ensures in
     swept_more (c.args.i * stride + c.loop-j.j) _ c.loop-j.invariant (omega arith) (omega arith)
-        (back w32 m.result m.type_inv ∙ m.ensures
-        ∙ ap₂ min_z (back w32 e.result e.type_inv ∙ e.ensures ∙ swept_next c.loop-j.invariant) (back w32 p.result p.type_inv ∙ sum))
-
-pub returns : goal.returns
-returns c = rw (to_z-of_z c.ranges.base) at (swept_all {m = c.args.n} c.loop-j.invariant (omega arith) (omega arith))
+    (back w32 m.result m.type_inv ∙ m.ensures
+    ∙ ap₂ min_z (back w32 e.result e.type_inv ∙ e.ensures ∙ swept_next c.loop-j.invariant) (back w32 p.result p.type_inv ∙ sum))

@@ -8,13 +8,9 @@ use mir.Val.{to_z, of_z}
 use Rattle.meaning.specs.Distances.{added}
 use Rattle.distances.specs.Matrix.{at, meeting, Changed, Cut}
 use Rattle.ticks.proofs.Ticks.{back}
-use Rattle.distances.proofs.Range.{minus_fits}
-use Rattle.distances.proofs.Net.{Met, met, low_range, upper_asked, lower_asked, cut_net}
+use Rattle.distances.proofs.Net.{Met, met, lower_asked, cut_net}
 use Rattle.distances.proofs.narrow.Goals as goal
 use Rattle.distances.proofs.narrow.Goals.{After-meets, Then-meets, After-tighten}
-
-pub meets-requires : goal.meets-requires
-meets-requires c = rw (to_z-of_z c.ranges.lo, to_z-of_z c.ranges.hi) c.requires
 
 -- what is known on the way: the test, the negated end, and the first bound
 test : (c : After-meets) → let s = c.args in c.meets.result ≡ meeting (at s.d.now) s.a s.b s.lo s.hi

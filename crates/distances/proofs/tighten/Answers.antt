@@ -6,12 +6,6 @@ use Rattle.ticks.proofs.Ticks.{back}
 use Rattle.distances.proofs.Rows.{kept_already}
 use Rattle.distances.proofs.tighten.Goals as goal
 
-pub insert-requires : goal.insert-requires
-insert-requires c = rw (to_z-of_z c.ranges.w) c.requires
-
-pub returns-then-less : goal.returns-then-less
-returns-then-less c = rw (to_z-of_z c.ranges.w) at c.insert.ensures
-
 pub returns-else-less : goal.returns-else-less
 returns-else-less c =
     let e = c.distance in
