@@ -25,6 +25,7 @@ pub fn distance(d: &[i32], i: usize, j: usize) -> i32
 }
 
 // What row i and column j hold where only the horizon h is known.
+#[tactic(auto, unfolding(meaning::specs::Distances::horizon_only))]
 fn start_value(i: usize, j: usize, h: u32) -> i32
     requires { h ≤ most_horizon }
     ensures { result ≡ horizon_only h i j }
