@@ -1,4 +1,4 @@
-//! Links the static libraries that `rt staticlib NAME` writes to target/staticlib.
+//! Links the static libraries that `tools/build` writes to target/staticlib.
 use std::path::Path;
 
 fn main() {
@@ -8,7 +8,7 @@ fn main() {
         if std::env::var_os(format!("CARGO_FEATURE_{}", name.to_uppercase())).is_some() {
             let archive = folder.join(format!("lib{name}.a"));
             println!("cargo:rerun-if-changed={}", archive.display());
-            assert!(archive.exists(), "{} is missing: run rt staticlib {name}", archive.display());
+            assert!(archive.exists(), "{} is missing: run tools/build", archive.display());
         }
     }
     println!("cargo:rerun-if-changed=build.rs");

@@ -36,7 +36,7 @@ pub struct Program {
 }
 
 impl Program {
-    /// The one that the variable TIMETABLE names, or where `rt check timetable` writes it.
+    /// The one that the variable TIMETABLE names, or where `tools/build` puts it.
     pub fn timetable() -> Program {
         let path = match std::env::var_os("TIMETABLE") {
             Some(path) => path.into(),
