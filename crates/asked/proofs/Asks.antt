@@ -1,21 +1,15 @@
 -- One word alone asks for the earliest times: by whether it is the same, byte for byte.
-use mathlib.Core.Path.{◌≡◌, refl, sym, ap, subst, ◌∙◌}
+use mathlib.Core.Path.{◌≡◌, refl, sym, ap, subst}
 use mathlib.Core.Logic.{◌↔◌}
 use mathlib.Core.Bool.{Bool, true, false, cond}
 use mathlib.Core.List.{List}
 use Prim.Native.Nat.{ℕ}
 use native.Mathlib.Omega.{arith}
 use lib.Dec.{T}
-use lib.ListN.{length}
-use lib.Seq.{slice, take-length}
 use Rattle.meaning.specs.Reading.{same}
 use Rattle.meaning.proofs.All.{is_same}
 use Rattle.scope.specs.declared.Side.TheVariants.{Latest, Earliest}
 use Rattle.asked.specs.Asked.{earliest_word, side_of}
-
--- what a test of the whole word says
-pub tested : (word : List ℕ) (b : Bool) → same (slice 0 (length word) word) earliest_word ≡ b → cond b Earliest Latest ≡ side_of word
-tested word b e = ap (λ (t : Bool). cond t Earliest Latest) (sym e ∙ ap (λ (w : List ℕ). same w earliest_word) (take-length word))
 
 pub asks_earliest : (word : List ℕ) → (side_of word ≡ Earliest) ↔ (word ≡ earliest_word)
 asks_earliest word = (λ e. only (same word earliest_word) refl e, λ e. ap side_of e)

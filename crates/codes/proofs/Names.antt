@@ -14,7 +14,6 @@ use Rattle.meaning.specs.Faultless.{WithoutFault}
 use Rattle.meaning.proofs.Tests.{both}
 use Rattle.meaning.proofs.Bounds.{Given, each_bound, given_upper, given_lower, given_horizon_upper, given_horizon_lower}
 use Rattle.plan.specs.declared.Record.{Record}
-use Rattle.plan.specs.declared.Plan.{Plan}
 use Rattle.plan.specs.Held.{row_of}
 use Rattle.cut.specs.declared.Ends.{Ends}
 use Rattle.cut.specs.Cut.{allowed}

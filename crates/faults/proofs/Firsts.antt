@@ -102,7 +102,11 @@ six x y l s u w =
 
 levels_first : (x y l s u w : Bool)
     → six x y l s u w
-    ≡ first_fault (unless_met l out_of_range_number ∷ six x y true s true true ∷ first_fault (unless_met u not_peaked_number ∷ unless_met w nothing_allowed_number ∷ []) ∷ [])
+    ≡ first_fault (
+    unless_met l out_of_range_number
+    ∷ six x y true s true true
+    ∷ first_fault (unless_met u not_peaked_number ∷ unless_met w nothing_allowed_number ∷ [])
+    ∷ [])
 levels_first false y false s u w = refl
 levels_first true false false s u w = refl
 levels_first true true false s u w = refl

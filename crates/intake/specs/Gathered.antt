@@ -1,23 +1,26 @@
 -- A text that reads gather in a lent area: each puts its bytes behind those of the reads before it, which stay as they are. Which bytes a read takes
--- from the world, and whether the input ends, no contract can say (`libc::read` promises a count that fits, and no more): what is done after each
+-- from the world, and whether the input ends, no contract can say (`Read::read` promises a count that fits, and no more): what is done after each
 -- answer is therefore said exactly, by `next_of`.
-use Rattle.std.specs.Prelude.{◌≡◌, Bool, cond, List, ℕ, zero, suc, ◌+◌, ◌≤◌, length, take, ℤ, pos, negsuc}
+use Rattle.std.specs.Prelude.{◌≡◌, cond, List, ℕ, zero, suc, ◌+◌, ◌≤◌, length, take, Result, Ok, Err}
+use Rattle.std.specs.declared.io.Error.{Error}
+use Rattle.std.specs.IoError.{error_kind}
+use Rattle.intake.specs.Kinds.{interrupts}
 use Rattle.intake.specs.declared.Next.{Next}
 use Rattle.intake.specs.declared.Next.TheVariants as N
 use Rattle.intake.specs.declared.Text.{Text}
 use Rattle.intake.specs.declared.Text.TheVariants as X
 
 -- the bytes that an answer counts
-abbrev pub gives : ℤ → ℕ
-gives (pos k) = k
-gives (negsuc k) = 0
+abbrev pub gives : Result ℕ Error → ℕ
+gives (Ok k) = k
+gives (Err e) = 0
 
 -- what is done after an answer, n bytes being there: 0 is the end of the input, a count goes on behind it, and a failure ends all but where a signal
 -- came first
-abbrev pub next_of : ℕ → ℤ → Bool → Next
-next_of n (pos zero) interrupted = N.Whole n
-next_of n (pos (suc k)) interrupted = N.On (n + suc k)
-next_of n (negsuc k) interrupted = cond interrupted (N.On n) N.Failed
+abbrev pub next_of : ℕ → Result ℕ Error → Next
+next_of n (Ok zero) = N.Whole n
+next_of n (Ok (suc k)) = N.On (n + suc k)
+next_of n (Err e) = cond (interrupts (error_kind e)) (N.On n) (N.Failed e)
 
 -- m bytes are there, of which the first n are as they were
 pub record Put (n m : ℕ) (before after : List ℕ) : Type 0 where
@@ -30,7 +33,7 @@ pub record Put (n m : ℕ) (before after : List ℕ) : Type 0 where
 abbrev pub Came : ℕ → List ℕ → List ℕ → Next → Type 0
 Came n before after (N.On m) = Put n m before after
 Came n before after (N.Whole m) = (m ≡ n) × Put n n before after
-Came n before after N.Failed = length after ≡ length before
+Came n before after (N.Failed e) = length after ≡ length before
 
 -- reads one after the other, from the area as it was before the first: n bytes are there
 pub data Reads (first : List ℕ) : ℕ → List ℕ → Type 0 where

@@ -1,2 +1,3 @@
--- What the contracts of `intake` cite.
+-- Which failures of a read end it, and a text that reads gather.
+pub mod Kinds
 pub mod Gathered

@@ -1,70 +1,89 @@
-// A text read from a file descriptor up to its end, or a failure.
+// A text read from an input up to its end, or a failure.
 #![tactic(auto)]
 
 ghost use Rattle.std.specs.Prelude.{◌≡◌, ◌+◌, ◌≤◌, length};
 ghost use Rattle.std.specs.Int.{w64};
 ghost use Rattle.std.proofs.Common.{Fits};
+ghost use Rattle.std.specs.IoError.{error_kind};
+ghost use Rattle.intake.specs.Kinds.{interrupts};
 ghost use Rattle.intake.specs.Gathered.{gives, next_of, Came, Gathered};
 
-// What is done after a read: go on with so many bytes, hand on so many, or say that it failed; errno says why.
+use std::io;
+use std::io::{Error, ErrorKind, Read};
+
+// What is done after a read: go on with so many bytes, hand on so many, or say that it failed, and why.
 #[derive(Clone, Copy)]
 enum Next {
     On(usize),
     Whole(usize),
-    Failed,
+    Failed(Error),
 }
 
-// What a text came to: its bytes at the front of the area, as many as this, or a read that failed.
+// What a text came to: its bytes at the front of the area, as many as this, or a read that failed, and why.
 #[derive(Clone, Copy)]
 pub enum Text {
     Whole(usize),
-    Failed,
+    Failed(Error),
 }
 
 // A proved loop has to end, and nothing says that signals do: it counts its reads down, from a number that no run uses up.
 const MOST_READS: u64 = u64::MAX;
 
-// What the answer of a read means where n bytes are there: only 0 is the end. `interrupted` says that a signal came first.
-fn decide(n: usize, got: isize, interrupted: bool) -> Next
-    requires { Fits w64 (n + gives got) }
-    ensures { result ≡ next_of n got interrupted }
+// A signal came before the read took a byte.
+fn is_interrupted(error: Error) -> bool
+    ensures { result ≡ interrupts (error_kind error) }
 {
-    if got < 0 {
-        if interrupted {
-            return Next::On(n);
+    match error.kind() {
+        ErrorKind::Interrupted => true,
+        _ => false,
+    }
+}
+
+// What the answer of a read means where n bytes are there: only 0 is the end.
+fn decide(n: usize, got: io::Result<usize>) -> Next
+    requires { Fits w64 (n + gives got) }
+    ensures { result ≡ next_of n got }
+{
+    match got {
+        Err(why) => {
+            if is_interrupted(why) {
+                return Next::On(n);
+            }
+            Next::Failed(why)
         }
-        return Next::Failed;
+        Ok(count) => {
+            if count > 0 {
+                return Next::On(n + count);
+            }
+            Next::Whole(n)
+        }
     }
-    if got > 0 {
-        return Next::On(n + widths::from_isize(got));
-    }
-    Next::Whole(n)
 }
 
 // One read behind the first n bytes of the area, which stay as they are.
-fn read_behind(fd: i32, area: &mut [u8], n: usize) -> Next
+fn read_behind<R: Read>(input: &mut R, area: &mut [u8], n: usize) -> Next
     requires { n ≤ length area.old }
     ensures { Came n area.old area.new result }
 {
-    let got = libc::read(fd, &mut area[n..]);
-    decide(n, got, os::errno() == libc::EINTR)
+    let got = input.read(&mut area[n..]);
+    decide(n, got)
 }
 
 // Reads up to the end of the input, or until the area is full.
-pub fn read_text(fd: i32, area: &mut [u8]) -> Text
+pub fn read_text<R: Read>(input: &mut R, area: &mut [u8]) -> Text
     ensures { Gathered area.old area.new result }
 {
     let mut n = 0;
     let mut left = MOST_READS;
     while n < area.len() {
         if left == 0 {
-            return Text::Failed;
+            return Text::Failed(Error::other("too many reads"));
         }
         left -= 1;
-        match read_behind(fd, area, n) {
+        match read_behind(input, area, n) {
             Next::On(m) => n = m,
             Next::Whole(m) => return Text::Whole(m),
-            Next::Failed => return Text::Failed,
+            Next::Failed(error) => return Text::Failed(error),
         }
     }
     Text::Whole(n)

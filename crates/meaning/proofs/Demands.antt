@@ -9,7 +9,7 @@ use mir.Facts.{and_yes}
 use lib.Dec.{T, leb, leb→le}
 use lib.ListN.{length, take, drop, length-map}
 use lib.IntN.{ℤ}
-use Rattle.meaning.specs.Plan.{Plan, Times, Timetable, levels, most_events, most_records}
+use Rattle.meaning.specs.Plan.{Plan, Times, Timetable, most_events, most_records}
 use Rattle.meaning.specs.Reading.{Reading, plan, refused, read}
 use Rattle.meaning.specs.Bounds.{Chain}
 use Rattle.meaning.specs.Outcome.{Outcome, solved, none, refusal, number, place, at, Solved, Right, Areas, long_enough, heard, over, written}

@@ -1,7 +1,7 @@
 -- For every text and all areas there is an outcome that the promise allows, and any two promises of the same text and areas agree in
 -- number and levels, and in chain and place too unless the number is 1: a plan has many chains. Where both ask for the same side they agree in the times.
 use mathlib.Core.Path.{◌≡◌, refl, ap, sym, subst, ◌∙◌}
-use mathlib.Core.Logic.{◌⊎◌, inl, inr, ⊎_elim}
+use mathlib.Core.Logic.{inl, inr, ⊎_elim}
 use mathlib.Core.List.{List}
 use mathlib.Core.Bool.{Bool, true, false, cond}
 use Prim.Native.Nat.{ℕ, ◌<◌}

@@ -1,11 +1,11 @@
 -- Bytes written one after the other are written at once; and a walk that writes a whole, part by part.
-use mathlib.Core.Path.{◌≡◌, refl, sym, ap, ap₂, ◌∙◌, subst}
-use mathlib.Core.List.{List, [], ◌∷◌, ◌++◌, append-nil, append_assoc}
-use Prim.Native.Nat.{ℕ, suc, ◌+◌, ◌-◌, ◌≤◌}
+use mathlib.Core.Path.{◌≡◌, refl, sym, ap, ◌∙◌, subst}
+use mathlib.Core.List.{List, [], ◌∷◌, ◌++◌, append_assoc}
+use Prim.Native.Nat.{ℕ, suc, ◌+◌, ◌≤◌}
 use native.Mathlib.Omega.{arith}
-use borrow.Rule.Slice.PartMut.{mid_of, put_mid}
-use lib.ListN.{length, length-append, length-drop, set, take, drop, drop_of_length-le}
-use lib.Seq.{sets, length-sets, sets-eq, take_all, take-length, drop-drop}
+use borrow.Rule.Slice.PartMut.{post_of, put_mid}
+use lib.ListN.{length, length-append, set, take, drop}
+use lib.Seq.{sets, length-sets, sets-eq, drop-drop}
 use Rattle.print.specs.Written.{Wrote}
 
 sets_join : (s : List ℕ) (at k : ℕ) (x y : List ℕ) → k ≡ at + length x → sets (sets s at x) k y ≡ sets s at (x ++ y)
@@ -32,22 +32,11 @@ wrote_none s at h = record { ends = omega arith; room = omega arith; holds = ref
 pub wrote_as : {s u : List ℕ} {at r : ℕ} {x y : List ℕ} → x ≡ y → Wrote s u at r x → Wrote s u at r y
 wrote_as {s} {u} {at} {r} e p = subst (λ (l : List ℕ). Wrote s u at r l) e p
 
--- a word copied to the front of the part behind `at`
-pub wrote_copied : (s part w : List ℕ) (at k : ℕ) → at + length w ≤ length s → k ≡ length w →
-    part ≡ take (length w) w ++ drop (length w) (mid_of at (length s - at) s) → Wrote s (put_mid at (length s - at) s part) at (at + k) w
+-- a word copied over a part that is as long
+pub wrote_copied : (s part w : List ℕ) (at k : ℕ) → at + length w ≤ length s → k ≡ length w → part ≡ w → Wrote s (put_mid at k s part) at (at + length w) w
 wrote_copied s part w at k h e f =
-    record { ends = omega arith; room = h; holds = ap (λ (l : List ℕ). take at s ++ l) copied ∙ sym (append_assoc (take at s) w _) ∙ sym (sets-eq w s at h) }
-  where
-    behind : mid_of at (length s - at) s ≡ drop at s
-    behind = take_all (length s - at) (drop at s) (omega (arith, length-drop at s))
-
-    none : drop (length s - at) (drop at s) ≡ []
-    none = drop_of_length-le (drop at s) {i = length s - at} (omega (arith, length-drop at s))
-
-    copied : part ++ drop (length s - at) (drop at s) ≡ w ++ drop (at + length w) s
-    copied =
-        ap (λ (l : List ℕ). part ++ l) none ∙ append-nil part ∙ f
-        ∙ ap₂ (λ (x y : List ℕ). x ++ y) (take-length w) (ap (drop (length w)) behind ∙ drop-drop (length w) at s)
+    let behind : post_of at (length w) s ≡ drop (at + length w) s = drop-drop (length w) at s in
+    record { ends = refl; room = h; holds = rw (f, e, behind) (sym (append_assoc (take at s) w _) ∙ sym (sets-eq w s at h)) }
 
 -- ---- a whole that is written part by part
 

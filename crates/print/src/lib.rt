@@ -14,7 +14,9 @@ fn put_word(out: &mut [u8], at: usize, word: &[u8]) -> usize
     requires { at + length word.now ≤ length out.old }
     ensures { Wrote out.old out.new at result word.now }
 {
-    at + bytes::copy(word, &mut out[at..])
+    let next = at + word.len();
+    out[at..next].copy_from_slice(word);
+    next
 }
 
 // The decimal digits of a number.

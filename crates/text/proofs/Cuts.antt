@@ -1,32 +1,24 @@
--- The pieces of a part of a list, by the place that `find` gives.
+-- A search in a part of a list, and the pieces by the place that it gives.
 use Prim.Native.Nat.{ℕ, zero, suc, ◌+◌, ◌≤◌, ◌<◌}
 use mathlib.Core.Path.{◌≡◌, refl, sym, ap, ap₂, ◌∙◌}
 use mathlib.Core.Bool.{Bool, true, false}
 use mathlib.Core.List.{List, [], ◌∷◌}
 use native.Mathlib.Nat.{zero-add, suc-add}
 use native.Mathlib.Omega.{arith}
+use borrow.Author.Tests.{eq-eqb}
 use lib.Dec.{eqb}
-use lib.ListN.{length, take, drop}
+use lib.ListN.{length, take, drop, get_or}
 use lib.Seq.{slice, slice_empty, length-slice, take-nil, drop-drop, take-take}
-use Rattle.bytes.specs.Bytes.{index_of, index_after}
-use Rattle.bytes.specs.Bytes as B
 use Rattle.meaning.specs.Reading.{split}
 use Rattle.text.specs.Bytes.{until, after}
 use Rattle.meaning.proofs.Slices.{slice_step}
 
--- the library's words for a search in a part of a list, and ours
-index_is : (b : ℕ) (xs : List ℕ) → index_of b xs ≡ until b xs
-unfolding index_of index_after
-index_is b [] = refl
-index_is b (x ∷ xs) = go (index_is b xs) (eqb x b) refl
-  where
-    go : index_of b xs ≡ until b xs → (t : Bool) → eqb x b ≡ t → index_of b (x ∷ xs) ≡ until b (x ∷ xs)
-    go ih true e = rw e
-    go ih false e = rw (e, ih)
+-- ---- a search
 
-pub index_until : (b at e : ℕ) (s : List ℕ) → index_of b (B.slice at e s) ≡ until b (slice at e s)
-unfolding B.slice
-index_until b at e s = index_is b (slice at e s)
+pub until_here : (b : ℕ) (s : List ℕ) (i e : ℕ) → i < e → e ≤ length s → get_or s i 0 ≡ b → until b (slice i e s) ≡ 0
+until_here b s i e h k q = rw (slice_step s i e h k, eq-eqb (get_or s i 0) b q)
+
+-- ---- pieces
 
 pub until_le : (b : ℕ) (xs : List ℕ) → until b xs ≤ length xs
 until_le b [] = omega arith

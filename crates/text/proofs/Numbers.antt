@@ -11,9 +11,6 @@ use lib.Dec.{leb}
 use lib.ListN.{length, get_or}
 use lib.Seq.{slice, slice_empty}
 use lib.IntN.{ℤ, pos, neg_ℤ}
-use mir.Syntax.{w32}
-use mir.Val.{SFits}
-use Rattle.ticks.proofs.Ticks.{ticks}
 use Rattle.meaning.specs.Reading.{is_digit, run_from, digits_of, leading_zero, number_of, minus, plus}
 use Rattle.text.specs.Number.{number_stop, digits_stop, says_zero}
 use Rattle.meaning.proofs.Slices.{slice_step}
@@ -97,8 +94,3 @@ digits_small f w q = go (leb 1 (length f)) (leb (length f) 7) refl (not (leading
     go true true p false t = let z : ◌≡◌ {A = ℕ} 0 1 = cc in omega arith
     go true false p d t = let z : ◌≡◌ {A = ℕ} 0 1 = cc in omega arith
     go false b p d t = let z : ◌≡◌ {A = ℕ} 0 1 = cc in omega arith
-
--- ---- a number has at most 7 digits, so its negative fits a signed 32-bit number
-
-pub small_neg : (v : ℕ) → v < 10000000 → SFits w32 (neg_ℤ (pos v))
-small_neg v h = omega ticks

@@ -1,10 +1,9 @@
--- A run of digits: one more of them, how large the value is, and where reading stops, as rewriting by the tests of the code.
+-- A run of digits: one more of them, and where reading stops, as rewriting by the tests of the code.
 use Prim.Native.Nat.{ℕ, suc, ◌+◌, ◌-◌, ◌*◌, ◌^◌, ◌≤◌, ◌<◌}
-use mathlib.Core.Path.{◌≡◌, refl, sym, ◌∙◌}
+use mathlib.Core.Path.{◌≡◌, sym, ◌∙◌}
 use mathlib.Core.Bool.{true, false, cond, not}
-use mathlib.Core.Option.{Option, none, some}
+use mathlib.Core.Option.{Option, none}
 use mathlib.Core.List.{List}
-use native.Mathlib.Nat.{le_refl, sub_self, pow-le-pow_right}
 use native.Mathlib.Omega.{arith}
 use borrow.Author.Tests.{le-leb, lt-leb, lt-ltb, le-ltb, eq-eqb, ne_eqb}
 use lib.ListN.{length, get_or}
@@ -14,30 +13,12 @@ use Rattle.text.specs.Number.{run_stop, digits_stop}
 use Rattle.meaning.proofs.Slices.{slice_step}
 
 module _ (s : List ℕ) (i e : ℕ) (h : i < e) (k : e ≤ length s) (v : ℕ) where
-  run_low : get_or s i 0 < 48 → run_from v (slice i e s) ≡ none
-  run_low q = rw (slice_step s i e h k, lt-leb 48 (get_or s i 0) q)
-
-  run_high : 48 ≤ get_or s i 0 → 57 < get_or s i 0 → run_from v (slice i e s) ≡ none
-  run_high p q = rw (slice_step s i e h k, le-leb 48 (get_or s i 0) p, lt-leb (get_or s i 0) 57 q)
-
   run_more : 48 ≤ get_or s i 0 → get_or s i 0 ≤ 57 → run_from v (slice i e s) ≡ run_from (v * 10 + (get_or s i 0 - 48)) (slice (i + 1) e s)
   run_more p q = rw (slice_step s i e h k, le-leb 48 (get_or s i 0) p, le-leb (get_or s i 0) 57 q)
 
 module _ (s : List ℕ) (i e : ℕ) (h : i < e) (k : e ≤ length s) where
-  stop_low : get_or s i 0 < 48 → run_stop (slice i e s) ≡ 0
-  stop_low q = rw (slice_step s i e h k, lt-leb 48 (get_or s i 0) q)
-
-  stop_high : 48 ≤ get_or s i 0 → 57 < get_or s i 0 → run_stop (slice i e s) ≡ 0
-  stop_high p q = rw (slice_step s i e h k, le-leb 48 (get_or s i 0) p, lt-leb (get_or s i 0) 57 q)
-
   stop_more : 48 ≤ get_or s i 0 → get_or s i 0 ≤ 57 → run_stop (slice i e s) ≡ suc (run_stop (slice (i + 1) e s))
   stop_more p q = rw (slice_step s i e h k, le-leb 48 (get_or s i 0) p, le-leb (get_or s i 0) 57 q)
-
-stop_end : (s : List ℕ) (i e : ℕ) → i ≡ e → run_stop (slice i e s) ≡ 0
-stop_end s i e q = rw (q, slice_empty e s)
-
-run_end : (s : List ℕ) (i e v : ℕ) → i ≡ e → run_from v (slice i e s) ≡ some v
-run_end s i e v q = rw (q, slice_empty e s)
 
 -- one more digit
 ten_more : (v d at i : ℕ) → at ≤ i → v < 10 ^ (i - at) → d ≤ 9 → v * 10 + d < 10 ^ (i + 1 - at)
@@ -55,40 +36,16 @@ pub record Swept (s : List ℕ) (at e v i : ℕ) : Type 0 where
   pub same_value : run_from v (slice i e s) ≡ run_from 0 (slice at e s)
   pub same_stop : i + run_stop (slice i e s) ≡ at + run_stop (slice at e s)
 
--- what is promised of a run
-abbrev Ran : List ℕ → ℕ → ℕ → Option ℕ → ℕ → Type 0
-Ran s at e value place = (value ≡ run_from 0 (slice at e s)) × (place ≡ at + run_stop (slice at e s))
-
-pub swept_none : (s : List ℕ) (at e : ℕ) → at ≤ e → Swept s at e 0 at
-swept_none s at e h = record { from = le_refl at; to = h; size = rw sub_self (omega arith); same_value = refl; same_stop = refl }
-
-module _ {s : List ℕ} {at e v i : ℕ} (r : Swept s at e v i) where
-  -- at most six digits before: the value with one more is below 10 ^ 7
-  pub swept_small : i < e → e ≤ at + 7 → v < 1000000
-  swept_small h g =
-      let k : i - at ≤ 6 = omega arith in
-      omega (arith, pow-le-pow_right {n = 10} (omega arith) k, r.size)
-
-  pub swept_low : i < e → e ≤ length s → get_or s i 0 < 48 → Ran s at e none i
-  swept_low h k q = (sym (run_low s i e h k v q) ∙ r.same_value, omega (arith, r.same_stop, stop_low s i e h k q))
-
-  pub swept_high : i < e → e ≤ length s → 48 ≤ get_or s i 0 → 57 < get_or s i 0 → Ran s at e none i
-  swept_high h k p q = (sym (run_high s i e h k v p q) ∙ r.same_value, omega (arith, r.same_stop, stop_high s i e h k p q))
-
-  pub swept_more : i < e → e ≤ length s → 48 ≤ get_or s i 0 → get_or s i 0 ≤ 57 → Swept s at e (v * 10 + (get_or s i 0 - 48)) (i + 1)
-  swept_more h k p q =
-      record {
-        from = omega (arith, r.from);
-        to = omega arith;
-        size = ten_more v (get_or s i 0 - 48) at i r.from r.size (omega arith);
-        same_value = sym (run_more s i e h k v p q) ∙ r.same_value;
-        same_stop = omega (arith, r.same_stop, stop_more s i e h k p q);
-      }
-
-  pub swept_end : e ≤ i → Ran s at e (some v) e
-  swept_end l =
-      let q : i ≡ e = omega (arith, r.to) in
-      (sym (run_end s i e v q) ∙ r.same_value, omega (arith, r.same_stop, stop_end s i e q))
+pub swept_more : {s : List ℕ} {at e v i : ℕ} → Swept s at e v i → i < e → e ≤ length s → 48 ≤ get_or s i 0 → get_or s i 0 ≤ 57
+    → Swept s at e (v * 10 + (get_or s i 0 - 48)) (i + 1)
+swept_more {s = s} {at = at} {e = e} {v = v} {i = i} r h k p q =
+    record {
+      from = omega (arith, r.from);
+      to = omega arith;
+      size = ten_more v (get_or s i 0 - 48) at i r.from r.size (omega arith);
+      same_value = sym (run_more s i e h k v p q) ∙ r.same_value;
+      same_stop = omega (arith, r.same_stop, stop_more s i e h k p q);
+    }
 
 -- ---- digits: the value and the stop, by the length and the first byte
 

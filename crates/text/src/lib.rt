@@ -14,7 +14,11 @@ pub fn find(s: &[u8], at: usize, end: usize, b: u8) -> usize
     requires { (at ≤ end) × (end ≤ length s.now) }
     ensures { result ≡ at + until b (slice at end s.now) }
 {
-    bytes::scan::find(s, at, end, b)
+    let mut place = at;
+    while place < end && s[place] != b {
+        place += 1;
+    }
+    place
 }
 
 // The digits of a number are 1 to 7.
