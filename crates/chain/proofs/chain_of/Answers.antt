@@ -10,7 +10,7 @@ use Rattle.chain.specs.Clash.{bound_at}
 use Rattle.chain.specs.Marks.{note_count, note, Marking, Reached, Visiting, Visited, Events}
 use Rattle.chain.proofs.Close.{marking, way_back, closed_path, visiting, writing, found}
 use Rattle.chain.proofs.chain_of.Goals as goal
-use Rattle.chain.proofs.chain_of.Goals.{Start, After-from_u8-b, After-mark, After-note, After-events-seen}
+use Rattle.chain.proofs.chain_of.Goals.{Start, After-from_u8-b, After-mark, After-events-seen}
 
 -- bound m
 abbrev last : Start → Bound

@@ -13,7 +13,6 @@ pub loop-list-init : goal.loop-list-init
 loop-list-init c = record {
   marks = same (c.put-seen.ensures ∙ ap (λ (x : ℕ). put_in x c.args.a) c.empty.ensures) refl;
   notes = c.requires.notes;
-  long = refl;
 }
 
 pub loop-list-smaller : goal.loop-list-smaller
@@ -30,7 +29,7 @@ pub loop-list-preserved : goal.loop-list-preserved
 loop-list-preserved c =
     let h = c.loop-list.invariant in
     let r = c.scan_listed-seen in
-    record { marks = marks_then _ _ _ _ h.marks r.ensures.marks; notes = r.ensures.notes; long = r.auto.notes ∙ h.long }
+    record { marks = marks_then _ _ _ _ h.marks r.ensures.marks; notes = r.ensures.notes }
 
 pub returns : goal.returns
 returns c =

@@ -1,8 +1,6 @@
 -- Events are marked one by one, from a on, and the notes lead from event to event. A scan marks an event more, and there are no more than the
 -- set holds.
 use Prim.Native.Nat.{◌-◌}
-use mathlib.Core.Path.{◌≡◌}
-use lib.ListN.{length}
 use lib.Count.{ones}
 use Rattle.eventset.specs.Sets.{set_width, bits_of, put_in}
 use Rattle.chain.specs.Marks.{Marks, Notes}
@@ -12,7 +10,6 @@ abbrev pub invariant-loop-list : goal.invariant-loop-list
 invariant-loop-list l = record {
   marks : Marks l.list l.d l.m l.a (put_in 0 l.a) l.fn.notes (bits_of l.seen) l.notes;
   notes : Notes l.notes;
-  long : length l.notes ≡ length l.fn.notes;
 }
 
 abbrev pub decreases-loop-list : goal.decreases-loop-list

@@ -1,6 +1,5 @@
 -- `chain::write` writes a code a turn, and goes on to the end of its bound; the turns are as many as the set has events.
 use native.Mathlib.Omega.{arith}
-use lib.ListN.{length-set}
 use Rattle.chain.proofs.Codes.{put_step}
 use Rattle.chain.proofs.write.Goals as goal
 
@@ -11,6 +10,5 @@ loop-steps-preserved c =
     (record {
       low = c.requires.notes.low h.e;
       most = omega arith;
-      long = simp length-set h.invariant.long;
       putting = put_step _ _ _ _ _ _ _ (omega arith) (omega (arith, c.requires.room, c.count-count.ensures)) h.invariant.putting;
     })

@@ -1,7 +1,5 @@
 -- After as many steps an event is come to, and the codes passed are written.
 use Prim.Native.Nat.{◌-◌, ◌≤◌, ◌<◌}
-use mathlib.Core.Path.{◌≡◌}
-use lib.ListN.{length}
 use Rattle.meaning.specs.Plan.{most_events}
 use Rattle.chain.proofs.Codes.{Putting}
 use Rattle.chain.proofs.write.Given as goal
@@ -10,7 +8,6 @@ abbrev pub invariant-loop-steps : goal.invariant-loop-steps
 invariant-loop-steps l = record {
   low : l.e < most_events;
   most : l.steps ≤ l.count;
-  long : length l.out ≡ length l.fn.out;
   putting : Putting l.notes l.fn.from l.count l.fn.out l.steps l.e l.out;
 }
 
