@@ -1,7 +1,7 @@
 -- Writing the codes along the notes: under way the front of the area holds the codes passed, which with those to come are
 -- the whole way.
-use mathlib.Core.Path.{◌≡◌, refl, sym, ap, ◌∙◌}
-use mathlib.Core.List.{List, [], ◌∷◌, ◌++◌, append-nil}
+use mathlib.Core.Path.{◌≡◌, sym, ap, ◌∙◌}
+use mathlib.Core.List.{List, [], ◌∷◌, ◌++◌}
 use Prim.Native.Nat.{ℕ, zero, suc, ◌+◌, ◌≤◌, ◌<◌}
 use native.Mathlib.Omega.{arith}
 use lib.ListN.{length, length-append, get_or, set, drop}
@@ -29,9 +29,6 @@ module _ (nx : List ℕ) (from c : ℕ) (before : List ℕ) where
     pub whole : done ++ codes_from nx e left ≡ codes_from nx from c
     pub holds : out ≡ over done before
 
-  pub put_start : Putting 0 from before
-  put_start = record { done = []; left = c; count = refl; sum = omega arith; whole = refl; holds = refl }
-
   pub put_step : (i e : ℕ) (out : List ℕ) → i < c → c ≤ length before → Putting i e out → Putting (i + 1) (end_at nx e) (set out i (code_at nx e))
   put_step i e out h r p = at p.left p.sum p.whole
     where
@@ -45,10 +42,3 @@ module _ (nx : List ℕ) (from c : ℕ) (before : List ℕ) where
         whole = append_snoc p.done (code_at nx e) (codes_from nx (end_at nx e) left) ∙ w;
         holds = ap (λ (l : List ℕ). set l i (code_at nx e)) p.holds ∙ over_next p.done before i (code_at nx e) p.count (omega arith);
       }
-
-  pub put_end : (i e : ℕ) (out : List ℕ) → c ≤ i → Putting i e out → out ≡ over (codes_from nx from c) before
-  put_end i e out h p = at p.left p.sum p.whole
-    where
-      at : (left : ℕ) → i + left ≡ c → p.done ++ codes_from nx e left ≡ codes_from nx from c → out ≡ over (codes_from nx from c) before
-      at zero s w = p.holds ∙ ap (λ (l : List ℕ). over l before) (sym (append-nil p.done) ∙ w)
-      at (suc left) s w = absurd (omega arith)

@@ -25,26 +25,28 @@ module _ (list : List Entry) (d : List ℤ) (m a : ℕ) where
   -- ---- events marked one by one
 
   -- a marked event stays marked
-  pub marks_keep : {s r : ℕ} {nx nx' : List ℕ} (e : ℕ) → Marks list d m a s nx r nx' → member s e ≡ true → member r e ≡ true
+  pub marks_keep : {s : ℕ} {nx : List ℕ} {r : ℕ} {nx' : List ℕ} (e : ℕ) → Marks list d m a s nx r nx' → member s e ≡ true → member r e ≡ true
   marks_keep e (same p q) h = ap (λ (x : ℕ). member x e) p ∙ h
   marks_keep e (more t nt k g l i z o y p q) h = ap (λ (x : ℕ). member x e) p ∙ put_keeps t (bound_at list k).start e (marks_keep e g h)
 
   -- there are not fewer, and more where an event is newly marked
-  marks_count : {s r : ℕ} {nx nx' : List ℕ} → Marks list d m a s nx r nx' → ones s ≤ ones r
+  marks_count : {s : ℕ} {nx : List ℕ} {r : ℕ} {nx' : List ℕ} → Marks list d m a s nx r nx' → ones s ≤ ones r
   marks_count (same p q) = omega (arith, ap ones p)
   marks_count (more t nt k g l i z o y p q) = omega (arith, marks_count g, ap ones p, count_fresh t (bound_at list k).start z)
 
-  marks_new : {s r : ℕ} {nx nx' : List ℕ} (e : ℕ) → Marks list d m a s nx r nx' → member s e ≡ false → member r e ≡ true → ones s < ones r
+  marks_new : {s : ℕ} {nx : List ℕ} {r : ℕ} {nx' : List ℕ} (e : ℕ) → Marks list d m a s nx r nx'
+      → member s e ≡ false → member r e ≡ true → ones s < ones r
   marks_new e (same p q) h j = absurd (not_both j (ap (λ (x : ℕ). member x e) p ∙ h))
   marks_new e (more t nt k g l i z o y p q) h j = omega (arith, marks_count g, ap ones p, count_fresh t (bound_at list k).start z)
 
   -- marked on from where it was left
-  pub marks_then : {s t r : ℕ} {nx nt nx' : List ℕ} → Marks list d m a s nx t nt → Marks list d m a t nt r nx' → Marks list d m a s nx r nx'
+  pub marks_then : {s : ℕ} {nx : List ℕ} {t : ℕ} {nt : List ℕ} {r : ℕ} {nx' : List ℕ}
+      → Marks list d m a s nx t nt → Marks list d m a t nt r nx' → Marks list d m a s nx r nx'
   marks_then {s} {nx = nx} f (same p q) = subst₂ (λ (x : ℕ) (y : List ℕ). Marks list d m a s nx x y) (sym p) (sym q) f
   marks_then f (more t nt k g l i z o y p q) = more t nt k (marks_then f g) l i z o y p q
 
   -- all entries but those of newly marked events are as before: had the event of a new note been marked before, it would have stayed so
-  pub marks_untouched : {s r : ℕ} {nx nx' : List ℕ} → Marks list d m a s nx r nx' → Untouched s nx r nx'
+  pub marks_untouched : {s : ℕ} {nx : List ℕ} {r : ℕ} {nx' : List ℕ} → Marks list d m a s nx r nx' → Untouched s nx r nx'
   marks_untouched (same p q) = record { entry = λ k h. ap (λ (x : List ℕ). get_or x k 0) q }
   marks_untouched {s} {nx = nx} (more t nt i g l j z o y p q) = record {
     entry = λ k h.

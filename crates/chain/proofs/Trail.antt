@@ -106,7 +106,7 @@ module _ (list : List Entry) (d : List ℤ) (m a : ℕ) where
           })
       passed x (Memᴰ.tail j) = keep_passed s nx β x z (t.each x j)
 
-  pub trail : {s : ℕ} {nx₀ nx : List ℕ} (e : ℕ) → at d a a ≡ pos 0 → Marks list d m a (put_in 0 a) nx₀ s nx → member s e ≡ true
+  pub trail : {nx₀ : List ℕ} {s : ℕ} {nx : List ℕ} (e : ℕ) → at d a a ≡ pos 0 → Marks list d m a (put_in 0 a) nx₀ s nx → member s e ≡ true
       → Trail s nx e
   trail {s} {nx = nx} e z (same p _) h = alone (ℕ_discrete e a)
     where

@@ -22,6 +22,7 @@ use Rattle.chain.proofs.Marks.{not_both}
 -- ---- the set of a list's events
 
 set_all : (xs : List ℕ) (e : ℕ) → Memᴰ e xs → member (set_of xs) e ≡ true
+set_all [] e i = elim i [ ]
 set_all (x ∷ xs) e (mathlib.Core.List.Memᴰ.head p) = ap (member (set_of (x ∷ xs))) p ∙ put_same (set_of xs) x
 set_all (x ∷ xs) e (mathlib.Core.List.Memᴰ.tail i) = put_keeps (set_of xs) x e (set_all xs e i)
 
