@@ -4,11 +4,10 @@
 
 use intake::Text;
 use scope::Side;
-use std::fs;
 use std::fs::{File, OpenFile};
-use std::io;
 use std::io::Write;
 use std::rt::{Env, Files};
+use std::{fs, io};
 
 // One byte more than a text may have: a longer one is refused for its length, whatever the rest of it says.
 const ENOUGH: usize = scope::MOST_BYTES + 1;
@@ -25,13 +24,21 @@ fn side_asked(rt: &impl Env) -> Side {
     }
 }
 
-// Says on standard error why a stream failed, in the system's words: the number that stands behind them in an error's form is left out.
-fn fail(rt: &(impl Eprint + AllocGlobal), stream: &str, why: io::Error) -> io::Result<()> {
-    let form = format!(in rt.alloc(); "{why}")?;
+// An error's form without the number that stands behind the system's words.
+fn words_of(form: &str) -> &str {
     match form.split_once(" (os error ") {
-        Some((words, _)) => eprintln!(rt; "{stream}: {words}"),
-        None => eprintln!(rt; "{stream}: {why}"),
+        Some((words, _)) => words,
+        None => form,
     }
+}
+
+// Says on standard error why a stream failed. Where that cannot be written either, nobody is left to tell.
+fn fail(rt: &(impl Eprint + AllocGlobal), stream: &str, why: io::Error) {
+    let said = match format!(in rt.alloc(); "{why}") {
+        Ok(form) => eprintln!(rt; "{stream}: {}", words_of(&form)),
+        Err(_) => eprintln!(rt; "{stream}: {why}"),
+    };
+    let _ = said;
 }
 
 // A disk may say only later that it is full: where the output is a file, its answer is waited for. One that cannot be opened again is not asked.
@@ -52,16 +59,16 @@ fn put(rt: &(impl Print + Files), form: &[u8]) -> io::Result<()> {
 }
 
 // The outcome of a text goes to standard output.
-fn print(rt: &HostRuntime, text: &[u8], side: Side) -> io::Result<()> {
+fn print(rt: &HostRuntime, text: &[u8], side: Side) {
     let mut out = [0u8; forms::AREA];
     let m = report::answer(text, side, &mut out);
     match put(rt, &out[..m]) {
-        Ok(()) => Ok(()),
+        Ok(()) => (),
         Err(why) => fail(rt, "standard output", why),
     }
 }
 
-fn main(rt: HostRuntime) -> io::Result<()> {
+fn main(rt: HostRuntime) {
     let mut text = [0u8; ENOUGH];
     match intake::read_text(&mut rt.stdin(), &mut text) {
         Text::Whole(n) => print(&rt, &text[..n], side_asked(&rt)),
