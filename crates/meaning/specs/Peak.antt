@@ -6,9 +6,9 @@ use Rattle.meaning.specs.Plan.{top_level}
 pub record SinglePeaked (ls : List ℕ) : Type 0 where
   pub unbroken : (y : ℕ) → 1 ≤ y → y ≤ top_level → (i j k : ℕ) → i ≤ j → j ≤ k → k < length ls → y ≤ get_or ls i 0 → y ≤ get_or ls k 0 → y ≤ get_or ls j 0
 
--- the test that decides it: never up again after it went down (`fallen` says that it did, x was the last level)
+-- the test that decides it: never up again after it went down (its first argument says that it did, x was the last level)
 abbrev pub peaked_from : Bool → ℕ → List ℕ → Bool
-peaked_from fallen x [] = true
+peaked_from _ x [] = true
 peaked_from true x (z ∷ zs) = let r = peaked_from true z zs in cond (leb z x) r false
 peaked_from false x (z ∷ zs) = peaked_from (ltb z x) z zs
 

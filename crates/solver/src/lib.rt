@@ -1,4 +1,4 @@
-// The entry points with the promise: a text is read, and its plan is settled; or the codes of a chain are looked at.
+// The entry points with the promise: a text is read, and its plan is settled; or the codes of a chain are looked at. `solver_c` exports the last three.
 #![tactic(auto)]
 
 ghost use Rattle.std.specs.Prelude.{◌≡◌, true, List, ℕ};
@@ -92,8 +92,7 @@ fn number_on(
 }
 
 // With the latest times.
-#[unsafe(no_mangle)]
-pub extern "C" fn timetable_solve(
+pub fn timetable_solve(
     text: &[u8],
     times: &mut [i64],
     levels: &mut [u8],
@@ -107,8 +106,7 @@ pub extern "C" fn timetable_solve(
 }
 
 // With the earliest times.
-#[unsafe(no_mangle)]
-pub extern "C" fn timetable_solve_earliest(
+pub fn timetable_solve_earliest(
     text: &[u8],
     times: &mut [i64],
     levels: &mut [u8],
@@ -122,8 +120,7 @@ pub extern "C" fn timetable_solve_earliest(
 }
 
 // By how many ticks a chain falls short in the plan of a text; 0 where the text is refused, or the codes are no chain of its plan.
-#[unsafe(no_mangle)]
-pub extern "C" fn timetable_ticks_short(text: &[u8], chain: &[u16]) -> u64
+pub fn timetable_ticks_short(text: &[u8], chain: &[u16]) -> u64
     ensures { ShortIn (read text.now) chain.now result }
 {
     let mut held = [0u8; scope::MOST_LEVELS_TOGETHER];
