@@ -40,6 +40,10 @@ pub given_fault : (k : ℕ) (e : Effect) → (k ≡ no_fault → ⊥) → Fault 
 given_fault zero e n = absurd (n refl)
 given_fault (suc k) e n = refl
 
+-- the fault that was found in the numbers q is that of the numbers r which they are
+pub found_in : (n : ℕ) (ls : List ℕ) {q r : Span} {k : ℕ} → q ≡ r → k ≡ record_fault n q ls → record_fault n r ls ≡ k
+found_in n ls e f = cc
+
 -- the plan q, unless there is a fault
 abbrev pub step_of : ℕ → M.Plan → Step
 step_of zero q = taken q
@@ -74,7 +78,8 @@ module _ (read stored : List ℕ) (some : 1 ≤ length read) (q : M.Plan) where
   levels_step = unless (peaked read) not_peaked_number (unless (not (all_zero read)) nothing_allowed_number (taken q))
 
   wish_tests : (r x l s : Bool) → (l ≡ true → stored ≡ read)
-      → unless r too_many_number (unless (x && l) out_of_range_number (unless s same_event_number levels_step)) ≡ step_of (tests r x true l s (peaked stored) (allows_any stored)) q
+      → unless r too_many_number (unless (x && l) out_of_range_number (unless s same_event_number levels_step))
+      ≡ step_of (tests r x true l s (peaked stored) (allows_any stored)) q
   wish_tests false x l s e = refl
   wish_tests true false l s e = refl
   wish_tests true true false s e = refl
