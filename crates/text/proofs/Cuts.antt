@@ -9,11 +9,25 @@ use borrow.Author.Tests.{eq-eqb}
 use lib.Dec.{eqb}
 use lib.ListN.{length, take, drop, get_or}
 use lib.Seq.{slice, slice_empty, length-slice, take-nil, drop-drop, take-take}
+use Rattle.std.specs.List.{position_or_len}
 use Rattle.meaning.specs.Reading.{split}
 use Rattle.text.specs.Bytes.{until, after}
 use Rattle.meaning.proofs.Slices.{slice_step}
 
 -- ---- a search
+
+-- the library's word for a search in a list, and ours
+index_is : (b : ℕ) (xs : List ℕ) → position_or_len (λ x. eqb x b) xs ≡ until b xs
+index_is b [] = refl
+index_is b (x ∷ xs) = go (index_is b xs) (eqb x b) refl
+  where
+    go : position_or_len (λ x. eqb x b) xs ≡ until b xs → (t : Bool) → eqb x b ≡ t → position_or_len (λ x. eqb x b) (x ∷ xs) ≡ until b (x ∷ xs)
+    go ih true e = rw e
+    go ih false e = rw e (omega (arith, ih))
+
+-- in a part of a list
+pub index_until : (b at e : ℕ) (s : List ℕ) → position_or_len (λ x. eqb x b) (slice at e s) ≡ until b (slice at e s)
+index_until b at e s = index_is b (slice at e s)
 
 pub until_here : (b : ℕ) (s : List ℕ) (i e : ℕ) → i < e → e ≤ length s → get_or s i 0 ≡ b → until b (slice i e s) ≡ 0
 until_here b s i e h k q = rw (slice_step s i e h k, eq-eqb (get_or s i 0) b q)
