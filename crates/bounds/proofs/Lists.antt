@@ -1,12 +1,12 @@
 -- The list of bounds grows by two at a time: those of an event, or those of a record, stand behind what is there.
-use mathlib.Core.Path.{◌≡◌, refl, ap, sym, ◌∙◌}
-use mathlib.Core.List.{List, [], ◌∷◌, ◌++◌, map, append-nil, append_assoc, map-append}
+use mathlib.Core.Path.{◌≡◌, refl, ap, ◌∙◌}
+use mathlib.Core.List.{List, [], ◌∷◌, ◌++◌, map, append_assoc, map-append}
 use Prim.Native.Nat.{ℕ, zero, suc, ◌+◌, ◌*◌, ◌-◌, ◌≤◌, ◌<◌}
 use native.Mathlib.Nat.{le_of_suc-le-suc, not-suc-le-zero}
 use native.Mathlib.Numerals.{add-one}
 use native.Mathlib.Omega.{arith}
 use lib.ListN.{length, get_or, take, set, replicate, length-set, length-replicate}
-use lib.Seq.{take-suc-set, take-length, get_or-set_other}
+use lib.Seq.{take-suc-set, get_or-set_other}
 use lib.IntN.{neg_ℤ}
 use mir.Syntax.{w32}
 use mir.Val.{SFits}
@@ -83,14 +83,14 @@ blanks (suc n) zero e = e
 blanks (suc n) (suc k) e = blanks n k e
 
 -- the horizon's bounds before event e
-abbrev pub Horizon-so-far : List Entry → ℕ → ℕ → Type 0
-Horizon-so-far list H e = Front list (2 * (e - 1)) (horizon_bounds H 1 (e - 1))
+abbrev pub HorizonSoFar : List Entry → ℕ → ℕ → Type 0
+HorizonSoFar list H e = Front list (2 * (e - 1)) (horizon_bounds H 1 (e - 1))
 
-pub horizon_none : (H : ℕ) {a : Entry} → a ≡ none → Horizon-so-far (replicate most_bounds a) H 1
+pub horizon_none : (H : ℕ) {a : Entry} → a ≡ none → HorizonSoFar (replicate most_bounds a) H 1
 horizon_none H {a} e = record { long = length-replicate most_bounds a; bounds = refl; rest = λ k h. blanks most_bounds k e }
 
-pub horizon_next : {list : List Entry} {H e : ℕ} (a b : Entry) → Horizon-so-far list H e → 1 ≤ e → 2 * e ≤ most_bounds →
-    bound_of a ≡ horizon_upper H e → bound_of b ≡ horizon_lower e → Horizon-so-far (set (set list (2 * (e - 1)) a) (2 * (e - 1) + 1) b) H (e + 1)
+pub horizon_next : {list : List Entry} {H e : ℕ} (a b : Entry) → HorizonSoFar list H e → 1 ≤ e → 2 * e ≤ most_bounds →
+    bound_of a ≡ horizon_upper H e → bound_of b ≡ horizon_lower e → HorizonSoFar (set (set list (2 * (e - 1)) a) (2 * (e - 1) + 1) b) H (e + 1)
 horizon_next {list} {H} {e} a b f low room p q =
     let s : (e + 1) - 1 ≡ suc (e - 1) = omega arith in
     rw (s, horizon_more H 1 (e - 1) e (omega arith)) (front_two (2 * suc (e - 1)) a b f (omega arith) (omega arith) p q)
@@ -98,12 +98,6 @@ horizon_next {list} {H} {e} a b f low room p q =
 -- the bounds of the first k records behind the first `base`
 pub record RecordsSoFar (list₀ : List Entry) (base : ℕ) (rs : List M.Record) (list : List Entry) (k : ℕ) : Type 0 where
   pub front : Front list (base + 2 * k) (listed list₀ base ++ record_bounds 0 (take k rs))
-
-pub records_none : {list : List Entry} {base : ℕ} {rs : List M.Record} → length list ≡ most_bounds →
-    ((k : ℕ) → base ≤ k → get_or list k none ≡ none) → RecordsSoFar list base rs list 0
-records_none {list} {base} l f =
-    let e : base + 0 ≡ base = omega arith in
-    record { front = record { long = l; bounds = rw e (sym (append-nil (listed list base))); rest = λ k h. f k (omega arith) } }
 
 pub records_next : {list₀ list : List Entry} {base k : ℕ} {rs : List M.Record} (a b : Entry) →
     RecordsSoFar list₀ base rs list k → k < length rs → base + 2 * k + 2 ≤ most_bounds →
@@ -120,10 +114,6 @@ records_next {list₀} {list} {base} {k} {rs} a b f l room p q =
           )
           (front_two (base + 2 * suc k) a b f.front (omega arith) (omega arith) p q);
     }
-
-pub records_all : {list₀ list : List Entry} {base k : ℕ} {rs : List M.Record} → RecordsSoFar list₀ base rs list k → k ≡ length rs →
-    Front list (base + 2 * length rs) (listed list₀ base ++ record_bounds 0 rs)
-records_all {rs = rs} f e = rw (e, take-length rs) at f.front
 
 -- ---- both
 
