@@ -70,7 +70,9 @@ module _ {p : M.Plan} {list : List Entry} (w : WithoutFault p) (s : Listed p lis
       all_net = tried_net start_trying a start_net
 
       all_into : {t : Times} → Timetable p t → Keeps p.events (at d') t
-      all_into {t} h = (tried_keeps start_trying a t).1 (start_keeps.1 (timetable_horizon h), λ k l m. timetable_holds h (bound_at list k) (place_given s w k m))
+      all_into {t} h =
+          let horizon = start_keeps.1 (timetable_horizon h) in
+          (tried_keeps start_trying a t).1 (horizon, λ k l m. timetable_holds h (bound_at list k) (place_given s w k m))
 
       -- a bound stands before the records' or among them
       held : {t : Times} → Keeps p.events (at d') t → (k : ℕ) → k < bound_count p → Dec (k < horizon_count p) → Holds t (bound_at list k)

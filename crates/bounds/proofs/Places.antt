@@ -59,7 +59,8 @@ module _ {p : M.Plan} {list : List Entry} (s : Listed p list) where
   -- the horizon's bounds stand first
   pub listed_horizon : listed list (horizon_count p) ≡ horizon_bounds p.horizon 1 (p.events - 1)
   listed_horizon =
-      sym (ap (λ l. map bound_of l) (take-take (horizon_count p) (bound_count p) list (omega arith))) ∙ sym (map_take (horizon_count p) (take (bound_count p) list))
+      sym (ap (λ l. map bound_of l) (take-take (horizon_count p) (bound_count p) list (omega arith)))
+      ∙ sym (map_take (horizon_count p) (take (bound_count p) list))
       ∙ ap (λ l. take (horizon_count p) l) s.all
       ∙ take_at (horizon_bounds p.horizon 1 (p.events - 1)) (record_bounds 0 p.records) (horizon_count p) (length_horizon p.horizon 1 (p.events - 1))
 
