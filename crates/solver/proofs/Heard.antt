@@ -13,7 +13,6 @@ use Rattle.meaning.specs.Outcome.{Areas, long_enough, heard}
 use Rattle.meaning.proofs.ReadGood.{read_faultless}
 use Rattle.meaning.proofs.Refusals.{refused_number}
 use Rattle.scope.specs.declared.Side.{Side}
-use Rattle.plan.specs.declared.Plan.{Plan}
 use Rattle.plan.specs.Held.{InMemory}
 use Rattle.reader.specs.declared.Answer.{Answer}
 use Rattle.reader.specs.declared.Verdict.TheVariants as Said
