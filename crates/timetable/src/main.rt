@@ -5,7 +5,7 @@
 use intake::Text;
 use scope::Side;
 use std::fs::{File, OpenFile};
-use std::io::Write;
+use std::io::{ErrorKind, Write};
 use std::rt::{Env, Files};
 use std::{fs, io};
 
@@ -41,11 +41,24 @@ fn fail(rt: &(impl Eprint + AllocGlobal), stream: &str, why: io::Error) {
     let _ = said;
 }
 
+// What a file's disk says once all is written. A file that is on none has nothing to say.
+fn said_of(disk: io::Result<()>) -> io::Result<()> {
+    match disk {
+        Ok(()) => Ok(()),
+        Err(why) => match why.kind() {
+            ErrorKind::InvalidInput | ErrorKind::ReadOnlyFilesystem | ErrorKind::Unsupported => {
+                Ok(())
+            }
+            _ => Err(why),
+        },
+    }
+}
+
 // A disk may say only later that it is full: where the output is a file, its answer is waited for. One that cannot be opened again is not asked.
 fn settled(rt: &impl Files) -> io::Result<()> {
     match fs::metadata(rt, OUTPUT) {
         Ok(found) if found.is_file() => match File::options().write(true).open(rt, OUTPUT) {
-            Ok(file) => file.sync_all(),
+            Ok(file) => said_of(file.sync_all()),
             Err(_) => Ok(()),
         },
         _ => Ok(()),

@@ -47,7 +47,7 @@ fn on_full_pipe(program: &Program, text: &[u8]) -> Result<Given, String> {
     run_on(command, text)
 }
 
-/// The signal that goes with it is ignored: else it would end the program.
+/// The signal that goes with it is ignored: a program of an older kit was ended by it.
 fn on_broken_pipe(program: &Program, text: &[u8]) -> Result<Given, String> {
     let (reader, writer) = std::io::pipe().map_err(described)?;
     drop(reader);
