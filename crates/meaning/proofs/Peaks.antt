@@ -96,7 +96,8 @@ peaked_sound ls e = record { unbroken = λ y lo hi i j k a b c p q. omega (arith
 -- and a single-peaked one passes
 pub peaked_complete : (ls : List ℕ) → ((i : ℕ) → lv ls i ≤ top_level) → SinglePeaked ls → peaked ls ≡ true
 unfolding peaked
-peaked_complete ls mild s = rises_back 0 ls (higher_next 0 ls zero-le (λ i j k a b. inner i j k a b (dec_lt k (length ls)) (dec_lt (min (lv ls i) (lv ls k)) 1)))
+peaked_complete ls mild s =
+    rises_back 0 ls (higher_next 0 ls zero-le (λ i j k a b. inner i j k a b (dec_lt k (length ls)) (dec_lt (min (lv ls i) (lv ls k)) 1)))
   where
     inner : (i j k : ℕ) → i ≤ j → j ≤ k → Dec (k < length ls) → Dec (min (lv ls i) (lv ls k) < 1) → min (lv ls i) (lv ls k) ≤ lv ls j
     inner i j k a b (no n) d = omega (arith, get_or-eq_default ls 0 {n = k} (omega arith))

@@ -17,7 +17,8 @@ use Rattle.meaning.specs.Peak.{peaked}
 use Rattle.meaning.specs.Reading.{Form, events_line, rule_line, wish_line, wrong, line_form, grow, split, line_feed}
 use Rattle.meaning.specs.Reading.{between, all_levels, in_range, same_event, all_zero, last_of, levels_together, Step, taken, fault, unless}
 use Rattle.meaning.specs.Reading.{first_line, later_line, line_step, plan, refused, empty, after_step, read_pieces, read, lines_in, lines}
-use Rattle.meaning.specs.Numbers.{wrong_form_number, too_many_number, out_of_range_number, same_event_number, not_peaked_number, area_too_short_number, nothing_allowed_number}
+use Rattle.meaning.specs.Numbers.{wrong_form_number, too_many_number, out_of_range_number, same_event_number}
+use Rattle.meaning.specs.Numbers.{not_peaked_number, area_too_short_number, nothing_allowed_number}
 
 -- ---- the number of a fault
 

@@ -214,7 +214,8 @@ module _ {n : ℕ} {G : Bound → Type 0} {D D' : Distances} {β : Bound} (c : C
 
 -- ---- the horizon alone: no step, down to event 0, up from it, or both
 
-module _ (n H : ℕ) (G : Bound → Type 0) (uppers : (e : ℕ) → 1 ≤ e → e < n → G (horizon_upper H e)) (lowers : (e : ℕ) → 1 ≤ e → e < n → G (horizon_lower e)) where
+module _ (n H : ℕ) (G : Bound → Type 0) (uppers : (e : ℕ) → 1 ≤ e → e < n → G (horizon_upper H e))
+    (lowers : (e : ℕ) → 1 ≤ e → e < n → G (horizon_lower e)) where
   knows_upper : {e : ℕ} → (e ≡ 0 → ⊥) → e < n → Known n G (horizon_only H) (horizon_upper H e)
   knows_upper {e} z h = record { given = uppers e (omega arith) h; starts = omega arith; ends = h; light = start_high H 0 e }
 

@@ -1,5 +1,6 @@
 -- The plan text: document 01, sections 2 and 3. Its reading is a plan, or the number and the line of the first fault.
-use Rattle.std.specs.Prelude.{ℕ, suc, ◌+◌, ◌-◌, ◌*◌, max, Bool, true, false, cond, ◌&&◌, not, List, [], ◌∷◌, ◌++◌, map, leb, ltb, eqb, length, get_or, drop, ℤ, pos, neg_ℤ, nat_abs, ◌+ℤ◌}
+use Rattle.std.specs.Prelude.{ℕ, suc, ◌+◌, ◌-◌, ◌*◌, max, leb, ltb, eqb, ℤ, pos, neg_ℤ, nat_abs, ◌+ℤ◌}
+use Rattle.std.specs.Prelude.{Bool, true, false, cond, ◌&&◌, not, List, [], ◌∷◌, ◌++◌, map, length, get_or, drop}
 use Rattle.std.proofs.Math.Option.{Option, none, some}
 use Rattle.std.specs.Int.Signed.{le_z, lt_z}
 use Rattle.meaning.specs.Plan.{Record, rule, wish, Plan}
@@ -109,7 +110,8 @@ wish_form vs = cond (leb 4 (length vs)) (wish_line (item vs 0) (item vs 1) (item
 -- the words are lower case and exact
 abbrev pub form_of : List ℕ → Option (List ℤ) → Form
 form_of word none = wrong
-form_of word (some vs) = cond (same word events_word) (events_form vs) (cond (same word rule_word) (rule_form vs) (cond (same word wish_word) (wish_form vs) wrong))
+form_of word (some vs) =
+    cond (same word events_word) (events_form vs) (cond (same word rule_word) (rule_form vs) (cond (same word wish_word) (wish_form vs) wrong))
 
 unfoldable pub line_form : List ℕ → Form
 line_form l = elim (split tab_byte l) [ [] ↦ wrong | w ∷ fs ↦ form_of w (numbers fs) ]

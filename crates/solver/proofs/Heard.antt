@@ -4,6 +4,7 @@ use mathlib.Core.Bool.{true, false}
 use mathlib.Core.List.{List}
 use Prim.Native.Nat.{ℕ, zero, suc, ◌≤◌}
 use native.Mathlib.Omega.{arith}
+use lib.ListN.{length}
 use Rattle.meaning.specs.Plan as M
 use Rattle.meaning.specs.Reading.{plan, refused, read}
 use Rattle.meaning.specs.Short.{ShortBy, ShortIn}
@@ -16,7 +17,7 @@ use Rattle.scope.specs.declared.Side.{Side}
 use Rattle.plan.specs.Held.{InMemory}
 use Rattle.reader.specs.declared.Answer.{Answer}
 use Rattle.reader.specs.declared.Verdict.TheVariants as Said
-use Rattle.reader.specs.Heard.{plan_in}
+use Rattle.reader.specs.Heard.{Read, plan_in}
 use Rattle.reader.proofs.Answers.{read_refused, read_taken, read_holds, read_held}
 use Rattle.settle.specs.Settled.{named, Settled}
 use Rattle.solver.specs.Solves.{ReadInto, Solves}
@@ -51,6 +52,10 @@ module _ {s : Side} (text : List ℕ) (a : Areas) where
   }
 
 -- ---- what the reader leaves
+
+-- in an area that has room for all levels
+pub read_into : {text before held : List ℕ} {a : Answer} → Read text before held a → M.most_levels_together ≤ length before → ReadInto text held a
+read_into {before = before} r room = record { before = before; room = room; read = r }
 
 module _ {text held : List ℕ} {a : Answer} (r : ReadInto text held a) where
   pub read_fault : {k line : ℕ} → a.verdict ≡ Said.Refused k line → read text ≡ refused k line

@@ -3,7 +3,7 @@ use mathlib.Core.Path.{sym, ◌∙◌}
 use native.Mathlib.Nat.{le_refl}
 use Rattle.meaning.specs.Plan.{most_levels_together}
 use Rattle.meaning.specs.Outcome.{areas}
-use Rattle.solver.proofs.Heard.{short_solves}
+use Rattle.solver.proofs.Heard.{short_solves, read_into}
 use Rattle.solver.proofs.solve_on.Goals as goal
 
 pub returns-then-not-long_enough : goal.returns-then-not-long_enough
@@ -13,4 +13,4 @@ returns-then-not-long_enough c =
     short_solves args.text.now (areas args.times.now args.levels.now args.chain.now) (sym test.ensures ∙ c.if-not-long_enough.true)
 
 pub returns : goal.returns
-returns c = c.outcome_of.ensures _ (record { before = _; room = le_refl most_levels_together; read = c.read-answer.ensures })
+returns c = c.outcome_of.ensures _ (read_into c.read-answer.ensures (le_refl most_levels_together))
