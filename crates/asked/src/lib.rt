@@ -10,11 +10,13 @@ use scope::Side;
 pub const LONGEST: usize = 8;
 
 // The side that a word asks for: the earliest times by its name, the latest by any other word or none.
+#[tactic(auto, using(text::proofs::Sames::same_is))]
 pub fn side_of(word: &[u8]) -> Side
     ensures { result ≡ side_of word.now }
 {
-    if text::is_word(word, 0, word.len(), b"earliest") {
-        return Side::Earliest;
+    if word == b"earliest".as_slice() {
+        Side::Earliest
+    } else {
+        Side::Latest
     }
-    Side::Latest
 }

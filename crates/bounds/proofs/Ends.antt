@@ -2,9 +2,9 @@
 -- added is broken, so that a chain is found.
 use mathlib.Core.Path.{◌≡◌, sym, subst, ◌∙◌}
 use mathlib.Core.Logic.{◌↔◌}
-use mathlib.Core.List.{List, [], map, Memᴰ}
-use Prim.Native.Nat.{ℕ, ◌+◌, ◌≤◌, ◌<◌}
-use native.Mathlib.Nat.{le_refl, not-suc-le-zero}
+use mathlib.Core.List.{List, [], ◌∷◌, ◌++◌, map, Memᴰ}
+use Prim.Native.Nat.{ℕ, ◌<◌}
+use native.Mathlib.Nat.{not-suc-le-zero}
 use native.Mathlib.Decide.{dec_lt}
 use native.Mathlib.Omega.{arith}
 use lib.ListN.{length, length-map}
@@ -22,13 +22,15 @@ use Rattle.meaning.proofs.Walks.{Walks, walks_same, walks_horizon}
 use Rattle.distances.specs.Matrix.{at, Net, Started}
 use Rattle.distances.proofs.Net.{started_net, started_means}
 use Rattle.chain.specs.declared.Bound.{Bound as Entry}
-use Rattle.chain.specs.Clash.{bound_at, listed, Broken, Found}
-use Rattle.chain.proofs.Close.{listed_at}
+use Rattle.chain.specs.Clash.{listed, Broken, Found}
+use Rattle.chain.proofs.Lists.{bounds_at}
 use Rattle.chain.proofs.Lead.{broken, found_chain}
-use Rattle.bounds.specs.Listed.{Listed, horizon_count, bound_count}
-use Rattle.bounds.specs.Tried.{Trying, Tried}
-use Rattle.bounds.proofs.Tries.{tried_net, tried_keeps, tried_walks, tried_clashes}
-use Rattle.bounds.proofs.Places.{listed_horizon, listed_given, given_place, place_given, listed_fit, bound_count_lem}
+use Rattle.bounds.specs.declared.Bounds.{Bounds}
+use Rattle.bounds.specs.Entries.{none, bound_at, held}
+use Rattle.bounds.specs.Listed.{Listed, horizon_count}
+use Rattle.bounds.specs.Tried.{Trying, Entered, Stopped}
+use Rattle.bounds.proofs.Tries.{tried_net, tried_keeps, tried_walks, stopped_clashes}
+use Rattle.bounds.proofs.Places.{place_of, upto_all, given_upto, listed_at, length_held, listed_horizon, held_given, given_held, held_fit}
 
 -- ---- the plan without its records
 
@@ -48,7 +50,14 @@ pub record Chained (p : M.Plan) (before : List ℕ) (k : ℕ) (after : List ℕ)
   pub counted : k ≡ length codes
   pub written : after ≡ over codes before
 
-module _ {p : M.Plan} {list : List Entry} (w : WithoutFault p) (s : Listed p list) where
+module _ {p : M.Plan} {b : Bounds} (w : WithoutFault p) (s : Listed p b) where
+  -- the bounds, and the horizon's of them
+  abbrev all : List Entry
+  all = held b
+
+  abbrev first : ℕ
+  first = horizon_count p
+
   -- ---- the start
   module _ {d : List ℤ} (o : Started p.events p.horizon d) where
     pub start_net : Net p.events p.horizon d
@@ -57,49 +66,50 @@ module _ {p : M.Plan} {list : List Entry} (w : WithoutFault p) (s : Listed p lis
     pub start_keeps : {t : Times} → Keeps p.events (at d) t ↔ Horizon p.events p.horizon t
     start_keeps = started_means o w.some
 
-    pub start_walks : Walks p.events (λ b. Memᴰ b (listed list (horizon_count p))) (at d)
+    pub start_walks : Walks p.events (λ x. Memᴰ x (listed all first)) (at d)
     start_walks = walks_same o.start
         (rw (listed_horizon s) (walks_horizon p.events p.horizon (B.Given (bare p)) (given_horizon_upper (bare p)) (given_horizon_lower (bare p))))
 
-    pub start_trying : Trying list (horizon_count p) (bound_count p) p.events d
-    start_trying = record { horizon = p.horizon; net = start_net; given = listed_fit s w (le_refl (bound_count p)); ordered = omega arith }
+    pub start_trying : Trying all first p.events d
+    start_trying = record { horizon = p.horizon; net = start_net; given = held_fit s w; ordered = omega (arith, length_held s) }
 
     -- ---- all were added
-    module _ {d' : List ℤ} (a : Tried list (horizon_count p) (bound_count p) p.events d d' (bound_count p)) where
+    module _ {d' : List ℤ} (a : Entered all first p.events d d' (length all)) where
       pub all_net : Net p.events p.horizon d'
       all_net = tried_net start_trying a start_net
 
       all_into : {t : Times} → Timetable p t → Keeps p.events (at d') t
       all_into {t} h =
           let horizon = start_keeps.1 (timetable_horizon h) in
-          (tried_keeps start_trying a t).1 (horizon, λ k l m. timetable_holds h (bound_at list k) (place_given s w k m))
+          (tried_keeps start_trying a t).1 (horizon, λ k l m. timetable_holds h (bound_at all k) (held_given s (bound_at all k) (bounds_at all k none m)))
 
       -- a bound stands before the records' or among them
-      held : {t : Times} → Keeps p.events (at d') t → (k : ℕ) → k < bound_count p → Dec (k < horizon_count p) → Holds t (bound_at list k)
-      held {t} h k m (yes l) = timetable_holds (bare_timetable p (start_keeps.0 ((tried_keeps start_trying a t).0 h).0)) (bound_at list k)
-          (rw (listed_horizon s) at (listed_at list (horizon_count p) k l (omega (arith, s.long, bound_count_lem s w))))
-      held {t} h k m (no l) = ((tried_keeps start_trying a t).0 h).1 k (omega arith) m
+      kept : {t : Times} → Keeps p.events (at d') t → (k : ℕ) → k < length all → Dec (k < first) → Holds t (bound_at all k)
+      kept {t} h k m (yes l) = timetable_holds (bare_timetable p (start_keeps.0 ((tried_keeps start_trying a t).0 h).0)) (bound_at all k)
+          (rw (listed_horizon s) at (listed_at all first k l m))
+      kept {t} h k m (no l) = ((tried_keeps start_trying a t).0 h).1 k (omega arith) m
 
       all_from : {t : Times} → Keeps p.events (at d') t → Timetable p t
       all_from {t} h = holds_timetable w h.origin
-          (λ b g. let q = given_place s b g in subst (λ x. Holds t x) q.is (held h q.place q.low (dec_lt q.place (horizon_count p))))
+          (λ x g. let q = place_of all x (given_held s x g) in subst (λ y. Holds t y) q.2 (kept h q.0 q.1 (dec_lt q.0 first)))
 
       pub all_stands : Stands p.events (at d') (Timetable p)
       all_stands = record { closed = all_net.closed; into = all_into; from = all_from }
 
     -- ---- one could not be
-    pub clash_broken : {d' : List ℤ} {r : ℕ} → Tried list (horizon_count p) (bound_count p) p.events d d' r → r < bound_count p → Broken list d' p.events r
-    clash_broken a h =
+    pub clash_broken : {d' : List ℤ} {r : ℕ} → Stopped all first p.events d d' r → Broken (listed all r) (bound_at all r) d' p.events
+    clash_broken {r = r} a =
         let asked = start_trying in
-        broken (tried_net asked a start_net) (listed_fit s w (omega arith)) (tried_walks asked a start_walks) (tried_clashes asked a h)
+        let before = a.entered in
+        broken (tried_net asked before start_net) (given_upto all (held_fit s w) a.inside) (tried_walks asked before start_walks) (stopped_clashes asked a)
 
   -- ---- the chain that is found
-  pub found_chained : {before after : List ℕ} {r k : ℕ} → r < bound_count p → Found (listed list (r + 1)) before k after → Chained p before k after
+  pub found_chained : {before after : List ℕ} {r k : ℕ} → r < length all → Found (listed all r ++ (bound_at all r ∷ [])) before k after →
+      Chained p before k after
   found_chained {r = r} h f =
-      let l : r + 1 ≤ bound_count p = omega arith in
       record {
-        codes = map (λ b. b.code) f.steps;
-        chain = found_chain w (listed_given s l) f;
-        counted = f.counted ∙ sym (length-map f.steps (λ b. b.code));
+        codes = map (λ x. x.code) f.steps;
+        chain = found_chain w (λ x i. held_given s x (upto_all all r h x i)) f;
+        counted = f.counted ∙ sym (length-map f.steps (λ x. x.code));
         written = f.written;
       }

@@ -3,13 +3,12 @@
 use mathlib.Core.Path.{◌≡◌, refl, sym, subst}
 use mathlib.Core.Logic.{◌↔◌}
 use mathlib.Core.List.Memᴰ
-use mathlib.Core.List.{List, [], ◌∷◌, ◌++◌, map-append, Memᴰ}
+use mathlib.Core.List.{List, [], ◌∷◌, ◌++◌, Memᴰ}
 use Prim.Native.Nat.{ℕ, zero, suc, ◌+◌, ◌-◌, ◌≤◌, ◌<◌}
 use native.Mathlib.Nat.{not-suc-le-zero, add-suc}
 use native.Mathlib.Omega.{arith}
 use borrow.Author.Count.{below_more}
-use lib.ListN.{length, get_or, take}
-use lib.Seq.{take-suc}
+use lib.ListN.{length}
 use Rattle.meaning.specs.Plan.{Times}
 use Rattle.meaning.specs.Distances.{Distances, Closed, Keeps, Below, added_bound, Meets}
 use Rattle.meaning.specs.Bounds.{Holds}
@@ -17,14 +16,10 @@ use Rattle.meaning.proofs.Distances.{adds_closed, adds_below, adds_keeps, adds_o
 use Rattle.meaning.proofs.Stands.{AddsBound, added_adds}
 use Rattle.meaning.proofs.Walks.{Walks, walks_wider, walks_add}
 use Rattle.chain.specs.declared.Bound.{Bound as Entry}
-use Rattle.chain.specs.Clash.{bound_of, none, bound_at, listed, Fit}
+use Rattle.chain.specs.Clash.{listed, Fit}
+use Rattle.chain.proofs.Lists.{listed_next}
+use Rattle.bounds.specs.Entries.{none, bound_at}
 use Rattle.bounds.specs.Tried.{tightened}
-
--- ---- the first bounds of a list
-
--- one more is the next
-pub listed_next : (list : List Entry) (m : ℕ) → m < length list → listed list (suc m) ≡ listed list m ++ (bound_at list m ∷ [])
-listed_next list m h = rw (take-suc list m none h) (map-append bound_of (take m list) (get_or list m none ∷ []))
 
 -- ---- one after the other
 
@@ -89,7 +84,7 @@ module _ (list : List Entry) (n : ℕ) (D : Distances) (from : ℕ) where
   tightened_walks zero s W = let e : from + 0 ≡ from = omega arith in rw e W
   tightened_walks (suc m) s W =
       let β = bound_at list (from + m) in
-      let next : listed list (from + suc m) ≡ listed list (from + m) ++ (β ∷ []) = rw add-suc (listed_next list (from + m) (omega (arith, s.inside))) in
+      let next : listed list (from + suc m) ≡ listed list (from + m) ++ (β ∷ []) = rw add-suc (listed_next list (from + m) none (omega (arith, s.inside))) in
       subst (λ bs. Walks n (λ b. Memᴰ b bs) (after (suc m))) (sym next)
       (walks_add (tightened_closed m (fewer s)) (walks_wider (λ b i. Memᴰ.append_left (β ∷ []) i) (tightened_walks m (fewer s) W))
       (last_fit s).start (last_fit s).end (Memᴰ.append_right (listed list (from + m)) (Memᴰ.head refl)) (added_last m) (s.met m (omega arith)))

@@ -1,11 +1,12 @@
--- What `Tried` says of the matrix: it is closed, it stands for the rows of times that hold the bounds that were added too, and its entries are
+-- What `Entered` says of the matrix: it is closed, it stands for the rows of times that hold the bounds that were added too, and its entries are
 -- weights of walks along the bounds before the one that could not be. Then the steps of the loop: one bound more that can be added, one that
--- cannot. What holds so far is `Tried` up to the place that comes next.
+-- cannot. What holds so far is `Entered` up to the place that comes next.
 use mathlib.Core.Path.{◌≡◌, refl, sym, ◌∙◌}
 use mathlib.Core.Logic.{◌↔◌}
 use mathlib.Core.Bool.{Bool, true, false}
 use mathlib.Core.List.{List, Memᴰ}
 use Prim.Native.Nat.{ℕ, ◌+◌, ◌-◌, ◌≤◌, ◌<◌}
+use lib.ListN.{length}
 use native.Mathlib.Nat.{le_refl}
 use native.Mathlib.Omega.{arith}
 use borrow.Author.Count.{below_more}
@@ -21,19 +22,25 @@ use Rattle.distances.specs.Matrix.{at, Net}
 use Rattle.distances.proofs.Net.{written_net}
 use Rattle.distances.proofs.Rows.{changed_more}
 use Rattle.chain.specs.declared.Bound.{Bound as Entry}
-use Rattle.chain.specs.Clash.{bound_at, listed}
-use Rattle.bounds.specs.Tried.{AddingOf, AddedOf, Trying, tightened, Tried}
+use Rattle.chain.specs.Clash.{listed, Fit}
+use Rattle.chain.proofs.Lists.{bounds_at}
+use Rattle.bounds.specs.Entries.{none, bound_at}
+use Rattle.bounds.specs.Tried.{AddingOf, AddedOf, Trying, tightened, Entered, Stopped}
 use Rattle.bounds.proofs.Tightened.{Addable, tightened_next, tightened_closed, tightened_below, tightened_keeps, tightened_walks}
 
 -- ---- the matrix
 
-module _ {list : List Entry} {from to n r : ℕ} {d d' : List ℤ} (asked : Trying list from to n d) (s : Tried list from to n d d' r) where
+-- a listed bound is between two of n events
+trying_fit : {list : List Entry} {from n : ℕ} {d : List ℤ} → Trying list from n d → (k : ℕ) → k < length list → Fit n (bound_at list k)
+trying_fit {list} asked k h = asked.given.fit (bound_at list k) (bounds_at list k none h)
+
+module _ {list : List Entry} {from n r : ℕ} {d d' : List ℤ} (asked : Trying list from n d) (s : Entered list from n d d' r) where
   -- the bounds that were added could be
   addable : Addable list n (at d) from (r - from)
   addable = record {
     closed = asked.net.closed;
-    inside = omega (arith, s.low, s.high, asked.given.long, asked.given.inside);
-    fit = λ j l. asked.given.fit (from + j) (omega (arith, s.high));
+    inside = omega (arith, s.low, s.high);
+    fit = λ j l. trying_fit asked (from + j) (omega (arith, s.high));
     met = λ j l. let e : (from + j) - from ≡ j = omega arith in rw e at (s.met (from + j) (omega arith) (omega (arith, s.low)));
   }
 
@@ -58,11 +65,11 @@ module _ {list : List Entry} {from to n r : ℕ} {d d' : List ℤ} (asked : Tryi
       let e : from + (r - from) ≡ r = omega (arith, s.low) in
       walks_same s.changed.done (rw e at (tightened_walks list n (at d) from (r - from) addable W))
 
-  -- bound r cannot be added to it
-  pub tried_clashes : r < to → Clashes (bound_at list r) (at d')
-  tried_clashes h =
-      let f = asked.given.fit r h in
-      rw (s.changed.done (bound_at list r).end (bound_at list r).start f.end f.start) (s.clash h)
+-- bound r cannot be added to it
+pub stopped_clashes : {list : List Entry} {from n r : ℕ} {d d' : List ℤ} → Trying list from n d → Stopped list from n d d' r → Clashes (bound_at list r) (at d')
+stopped_clashes {list} {r = r} asked s =
+    let f = trying_fit asked r s.inside in
+    rw (s.entered.changed.done (bound_at list r).end (bound_at list r).start f.end f.start) s.clash
 
 -- ---- one bound after the other
 
@@ -74,47 +81,35 @@ no_clashes : (x w : ℤ) → le_z (pos 0) (x +ℤ w) ≡ false → (x +ℤ w) <�
 no_clashes x w e = omega (ticks, le_z_false (pos 0) (x +ℤ w) e, sum x w)
 
 -- before the first
-pub tried_none : {list : List Entry} {from n : ℕ} {d : List ℤ} → Tried list from from n d d from
-tried_none {from = from} =
+pub entered_none : {list : List Entry} {from n : ℕ} {d : List ℤ} → from ≤ length list → Entered list from n d d from
+entered_none {from = from} l =
     let e : from - from ≡ 0 = omega arith in
     record {
       low = le_refl from;
-      high = le_refl from;
+      high = l;
       met = λ k l h. absurd (omega arith);
-      clash = λ h. absurd (omega arith);
       changed = rw e (record { long = refl; done = λ i j p q. refl; beside = λ i j p q l. refl; rest = λ k l. refl });
     }
 
--- what is asked, up to a place on the way
-trying_up_to : {list : List Entry} {from to n k : ℕ} {d : List ℤ} → Trying list from to n d → from ≤ k → k ≤ to → Trying list from k n d
-trying_up_to asked low high = record {
-  horizon = asked.horizon;
-  net = asked.net;
-  given = record { long = asked.given.long; inside = omega (arith, asked.given.inside); fit = λ i l. asked.given.fit i (omega arith) };
-  ordered = low;
-}
-
-module _ {list : List Entry} {from to n k : ℕ} {d₀ d : List ℤ} (asked : Trying list from to n d₀) (s : Tried list from k n d₀ d k) (next : k < to) where
+module _ {list : List Entry} {from n k : ℕ} {d₀ d : List ℤ} (asked : Trying list from n d₀) (s : Entered list from n d₀ d k) (next : k < length list) where
   -- `add` may be asked for the next
   pub adding_next : AddingOf n (bound_at list k) d
   adding_next =
-      let f = asked.given.fit k next in
-      let net = tried_net (trying_up_to asked s.low (omega arith)) s asked.net in
-      record { horizon = asked.horizon; net = net; from = f.start; to = f.end; weight = f.weight }
+      let f = trying_fit asked k next in
+      record { horizon = asked.horizon; net = tried_net asked s asked.net; from = f.start; to = f.end; weight = f.weight }
 
   -- the entry that decides whether it can be added
   decides : at d (bound_at list k).end (bound_at list k).start ≡ tightened list (at d₀) from (k - from) (bound_at list k).end (bound_at list k).start
-  decides = let f = asked.given.fit k next in s.changed.done (bound_at list k).end (bound_at list k).start f.end f.start
+  decides = let f = trying_fit asked k next in s.changed.done (bound_at list k).end (bound_at list k).start f.end f.start
 
   -- it can: one more is added
-  pub tried_more : {d' : List ℤ} {r : Bool} → AddedOf n (bound_at list k) d d' r → r ≡ true → Tried list from (k + 1) n d₀ d' (k + 1)
-  tried_more a e = record {
+  pub entered_more : {d' : List ℤ} {r : Bool} → AddedOf n (bound_at list k) d d' r → r ≡ true → Entered list from n d₀ d' (k + 1)
+  entered_more a e = record {
     low = omega (arith, s.low);
-    high = le_refl (k + 1);
+    high = omega arith;
     met = λ i l h. below_more (λ i. from ≤ i → Meets (bound_at list i) (tightened list (at d₀) from (i - from))) k (λ i h l. s.met i l h) (λ l. meets) i h l;
-    clash = λ h. absurd (omega arith);
     changed =
-        let f = asked.given.fit k next in
+        let f = trying_fit asked k next in
         rw (tightened_next list (at d₀) s.low)
         (changed_more (bound_at list k).start (bound_at list k).end (bound_at list k).weight s.changed f.start f.end (a.taken e));
   }
@@ -123,16 +118,16 @@ module _ {list : List Entry} {from to n k : ℕ} {d₀ d : List ℤ} (asked : Tr
       meets = rw decides at (yes_meets (at d (bound_at list k).end (bound_at list k).start) (bound_at list k).weight (sym a.answer ∙ e))
 
   -- it cannot: nothing changes
-  pub tried_clash : {d' : List ℤ} {r : Bool} → AddedOf n (bound_at list k) d d' r → r ≡ false → Tried list from to n d₀ d' k
-  tried_clash a e =
+  pub stopped_here : {d' : List ℤ} {r : Bool} → AddedOf n (bound_at list k) d d' r → r ≡ false → Stopped list from n d₀ d' k
+  stopped_here a e =
       rw (a.refused e) (record {
-        low = s.low;
-        high = omega arith;
-        met = s.met;
-        clash = λ h. rw decides at (no_clashes (at d (bound_at list k).end (bound_at list k).start) (bound_at list k).weight (sym a.answer ∙ e));
-        changed = s.changed;
+        inside = next;
+        entered = s;
+        clash = rw decides at (no_clashes (at d (bound_at list k).end (bound_at list k).start) (bound_at list k).weight (sym a.answer ∙ e));
       })
 
 -- at the end
-pub tried_all : {list : List Entry} {from to n k : ℕ} {d d' : List ℤ} → Tried list from k n d d' k → k ≡ to → Tried list from to n d d' to
-tried_all s e = rw e at s
+pub entered_all : {list : List Entry} {from n k : ℕ} {d d' : List ℤ} → Entered list from n d d' k → length list ≤ k → Entered list from n d d' (length list)
+entered_all {list} {k = k} s l =
+    let e : k ≡ length list = omega (arith, s.high) in
+    rw e at s

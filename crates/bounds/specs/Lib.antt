@@ -1,4 +1,4 @@
 -- What the contracts of `bounds` cite.
-pub mod Listed
 pub mod Entries
+pub mod Listed
 pub mod Tried

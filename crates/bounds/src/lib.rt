@@ -1,32 +1,38 @@
 // The plan's bounds in one list, and adding them to the matrix up to the first that leaves no timetable.
 #![tactic(auto)]
 
-ghost use Rattle.std.specs.Prelude.{◌≡◌, ◌++◌, ◌+◌, ◌*◌, ◌-◌, ◌≤◌, ◌<◌, length, neg_ℤ};
+ghost use Rattle.std.specs.Prelude.{◌≡◌, List, [], ◌++◌, ◌+◌, ◌*◌, ◌-◌, ◌≤◌, ◌<◌, length, neg_ℤ};
 ghost use Rattle.std.specs.Int.{w32};
 ghost use Rattle.std.proofs.Common.{SFits};
-ghost use Rattle.meaning.specs.Plan as M;
 ghost use Rattle.meaning.specs.Plan.{most_events, most_horizon, most_records};
+ghost use Rattle.meaning.specs.Bounds as B;
 ghost use Rattle.meaning.specs.Bounds.{horizon_upper, horizon_lower, horizon_bounds, record_bounds};
-ghost use Rattle.plan.specs.Held.{InMemory};
-ghost use Rattle.chain.specs.Clash.{bound_of, none, bound_at, listed};
+ghost use Rattle.chain.specs.Clash.{bound_of};
+ghost use Rattle.bounds.specs.Entries.{most_bounds, upper_entry, lower_entry, held, Front, Pushed};
 ghost use Rattle.bounds.specs.Listed.{Listed};
-ghost use Rattle.bounds.specs.Entries.{upper_entry, lower_entry, Front, Appending};
 ghost use Rattle.bounds.specs.Tried.{AddingOf, AddedOf, Trying, Tried};
 
 use chain::Bound;
-use plan::{Plan, Record};
+use distances::Matrix;
+use plan::{Loaded, Record};
 use scope::{HORIZON_CODES, MOST_BOUNDS};
+use widths::{Number, Width};
 
 // What stands where there is no bound.
-fn nothing() -> Bound
-    ensures { result ≡ none }
-{
-    Bound {
-        start: 0,
-        end: 0,
-        code: 0,
-        weight: 0,
-    }
+const NOTHING: Bound = Bound {
+    start: 0,
+    end: 0,
+    code: 0,
+    weight: 0,
+};
+
+// A plan's bounds: the first `count` entries, of which the first `horizon` are those of the horizon. Nothing stands past the last. The room for them is
+// fixed: there is no heap.
+#[derive(Drop)]
+pub struct Bounds {
+    all: [Bound; MOST_BOUNDS],
+    pub horizon: usize,
+    count: usize,
 }
 
 // The bounds of the horizon h for the event e.
@@ -36,9 +42,9 @@ fn horizon_upper(e: usize, h: u32) -> Bound
 {
     Bound {
         start: 0,
-        end: widths::to_u8(e),
-        code: widths::to_u16(HORIZON_CODES + 2 * e),
-        weight: widths::to_i32(widths::from_u32(h)),
+        end: u8::of(e),
+        code: u16::of(HORIZON_CODES + 2 * e),
+        weight: i32::of(h.number()),
     }
 }
 
@@ -47,9 +53,9 @@ fn horizon_lower(e: usize) -> Bound
     ensures { bound_of result ≡ horizon_lower e }
 {
     Bound {
-        start: widths::to_u8(e),
+        start: u8::of(e),
         end: 0,
-        code: widths::to_u16(HORIZON_CODES + 2 * e + 1),
+        code: u16::of(HORIZON_CODES + 2 * e + 1),
         weight: 0,
     }
 }
@@ -62,7 +68,7 @@ fn record_upper(k: usize, r: Record, hi: i32) -> Bound
     Bound {
         start: r.a,
         end: r.b,
-        code: widths::to_u16(2 * k),
+        code: u16::of(2 * k),
         weight: hi,
     }
 }
@@ -71,103 +77,106 @@ fn record_lower(k: usize, r: Record, lo: i32) -> Bound
     requires { (k < most_records) × SFits w32 (neg_ℤ lo) }
     ensures { result ≡ lower_entry k r lo }
 {
-    let down = ticks::minus(lo);
     Bound {
         start: r.b,
         end: r.a,
-        code: widths::to_u16(2 * k + 1),
-        weight: down,
+        code: u16::of(2 * k + 1),
+        weight: -lo,
     }
 }
 
-// The horizon's bounds, two for each event other than 0, at the front of a list.
-fn horizon_bounds(n: usize, h: u32) -> [Bound; MOST_BOUNDS]
-    requires { (1 ≤ n) × (n ≤ most_events) × (h ≤ most_horizon) }
-    ensures { Front result (2 * (n - 1)) (horizon_bounds h 1 (n - 1)) }
-{
-    let mut list = [nothing(); MOST_BOUNDS];
-    for e in 1..n {
-        let i = 2 * (e - 1);
-        list[i] = horizon_upper(e, h);
-        list[i + 1] = horizon_lower(e);
+impl Bounds {
+    // No bound yet.
+    pub fn none() -> Bounds
+        ensures { (result.horizon ≡ 0) × Front result [] }
+    {
+        Bounds {
+            all: [NOTHING; MOST_BOUNDS],
+            horizon: 0,
+            count: 0,
+        }
     }
-    list
+
+    // No bound any more.
+    fn clear(&mut self)
+        ensures { Front self.new [] }
+    {
+        self.all = [NOTHING; MOST_BOUNDS];
+        self.count = 0;
+    }
+
+    // One bound more.
+    fn push(&mut self, b: Bound)
+        requires { self.old.count < most_bounds }
+        ensures { Pushed self.old b self.new }
+    {
+        self.all[self.count] = b;
+        self.count += 1;
+    }
+
+    // The horizon's bounds, two for each event other than 0.
+    fn push_horizon(&mut self, n: usize, h: u32)
+        requires { Front self.old [] × (1 ≤ n) × (n ≤ most_events) × (h ≤ most_horizon) }
+        ensures counted { self.new.horizon ≡ self.new.count }
+        ensures listed { Front self.new (horizon_bounds h 1 (n - 1)) }
+    {
+        for e in 1..n {
+            self.push(horizon_upper(e, h));
+            self.push(horizon_lower(e));
+        }
+        self.horizon = self.count;
+    }
+
+    // Two bounds for each record.
+    fn push_records(&mut self, plan: &Loaded)
+        requires { self.old.count + 2 * length plan.now.records ≤ most_bounds }
+        ensures same_horizon { self.new.horizon ≡ self.old.horizon }
+        ensures listed { (bs : List B.Bound) → Front self.old bs → Front self.new (bs ++ record_bounds 0 plan.now.records) }
+    {
+        for (k, &r) in plan.plan.records[..plan.plan.count].iter().enumerate() {
+            let ends = cut::ends_of(r, plan.levels);
+            self.push(record_upper(k, r, ends.hi));
+            self.push(record_lower(k, r, ends.lo));
+        }
+    }
+
+    // The bounds, one after the other.
+    pub fn listed(&self) -> &[Bound]
+        requires { self.now.count ≤ most_bounds }
+        ensures { result.now ≡ held self.now }
+    {
+        &self.all[..self.count]
+    }
 }
 
-// The list with two bounds for each record behind the first `base`.
-fn with_records(
-    list: [Bound; MOST_BOUNDS],
-    base: usize,
-    h: Plan,
-    held: &[u8],
-) -> [Bound; MOST_BOUNDS]
-    requires { Appending list base h held.now }
-    ensures { (p : M.Plan) → InMemory p h held.now
-        → Front result (base + 2 * length p.records) (listed list base ++ record_bounds 0 p.records) }
+// The plan's bounds: the horizon's first, then those of the records. The list is lent: returned, it would stand on the stack twice.
+pub fn list_of(plan: &Loaded, list: &mut Bounds)
+    ensures { Listed plan.now list.new }
 {
-    let mut all = list;
-    for k in 0..h.count {
-        let r = h.records[k];
-        let ends = cut::ends_of(r, held);
-        let i = base + 2 * k;
-        all[i] = record_upper(k, r, ends.hi);
-        all[i + 1] = record_lower(k, r, ends.lo);
-    }
-    all
-}
-
-// The plan's bounds: the horizon's first, then those of the records.
-pub fn list_of(h: Plan, held: &[u8]) -> [Bound; MOST_BOUNDS]
-    requires { (p : M.Plan) × InMemory p h held.now }
-    ensures { (p : M.Plan) → InMemory p h held.now → Listed p result }
-{
-    with_records(
-        horizon_bounds(h.events, h.horizon),
-        2 * (h.events - 1),
-        h,
-        held,
-    )
+    list.clear();
+    list.push_horizon(plan.plan.events, plan.plan.horizon);
+    list.push_records(plan);
 }
 
 // One bound; false where it leaves no timetable.
-fn try_bound(b: Bound, d: &mut [i32], n: usize) -> bool
-    requires { AddingOf n (bound_of b) d.old }
-    ensures { AddedOf n (bound_of b) d.old d.new result }
+fn try_bound(b: Bound, d: &mut Matrix) -> bool
+    requires { AddingOf d.old.events (bound_of b) d.old.entries }
+    ensures same_events { d.new.events ≡ d.old.events }
+    ensures answered { AddedOf d.old.events (bound_of b) d.old.entries d.new.entries result }
 {
-    let u = widths::from_u8(b.start);
-    let v = widths::from_u8(b.end);
-    distances::add(d, n, u, v, b.weight)
+    d.add(usize::from(b.start), usize::from(b.end), b.weight)
 }
 
-// Adds the bound at place k.
-fn try_at(list: &[Bound], k: usize, d: &mut [i32], n: usize) -> bool
-    requires { (k < length list.now) × AddingOf n (bound_at list.now k) d.old }
-    ensures { AddedOf n (bound_at list.now k) d.old d.new result }
+// Adds the bounds from place `from` on; the place of the first that leaves no timetable as an error, so that places are counted.
+pub fn try_all(list: &[Bound], from: usize, d: &mut Matrix) -> Result<(), usize>
+    requires { Trying list.now from d.old.events d.old.entries }
+    ensures same_events { d.new.events ≡ d.old.events }
+    ensures tried { Tried list.now from d.old.events d.old.entries d.new.entries result }
 {
-    let b = list[k];
-    try_bound(b, d, n)
-}
-
-// Adds the bounds from place `from` up to `to`; the place of the first that leaves no timetable, or `to`.
-fn try_listed(list: &[Bound], from: usize, to: usize, d: &mut [i32], n: usize) -> usize
-    requires { Trying list.now from to n d.old }
-    ensures { Tried list.now from to n d.old d.new result }
-{
-    let mut k = from;
-    while k < to {
-        if try_at(list, k, d, n) {
-            k += 1;
-        } else {
-            break;
+    for k in from..list.len() {
+        if !try_bound(list[k], d) {
+            return Err(k);
         }
     }
-    k
-}
-
-// The same of an array: it is lent.
-pub fn try_all(list: [Bound; MOST_BOUNDS], from: usize, to: usize, d: &mut [i32], n: usize) -> usize
-    requires { Trying list from to n d.old }
-    ensures { Tried list from to n d.old d.new result }
-{
-    try_listed(&list, from, to, d, n)
+    Ok(())
 }

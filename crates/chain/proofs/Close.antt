@@ -1,13 +1,13 @@
--- The way from b to a by the notes, and bound m from a to b, closed to a chain that begins at its least event: the way is parted there,
+-- The way from b to a by the notes, and the last bound from a to b, closed to a chain that begins at its least event: the way is parted there,
 -- and the bound joins its back to its front.
 use mathlib.Core.Path.{◌≡◌, refl, sym, ap, ap₂, ◌∙◌, subst}
 use mathlib.Core.Bool.{true}
 use mathlib.Core.Logic.{⊎_elim}
 use mathlib.Core.List.Memᴰ
 use mathlib.Core.List.{List, [], ◌∷◌, ◌++◌, map, Memᴰ}
-use Prim.Native.Nat.{ℕ, zero, suc, ◌+◌, ◌*◌, ◌≤◌, ◌<◌}
+use Prim.Native.Nat.{ℕ, ◌≤◌, ◌<◌}
 use native.Mathlib.Omega.{arith}
-use lib.ListN.{length, get_or, length-append}
+use lib.ListN.{length, length-append}
 use lib.IntN.{ℤ}
 use lib.Count.{ones, count_trailing_zeros}
 use Rattle.ticks.proofs.Ticks.{ticks, sum}
@@ -18,22 +18,15 @@ use Rattle.meaning.specs.Bounds.{Bound, Leads, stop, step, total}
 use Rattle.meaning.specs.Outcome.{over}
 use Rattle.meaning.proofs.Walks.{Parted, part}
 use Rattle.meaning.proofs.Chains.{Loop, loop_turn, turned_back, starts_on_way, last_entered}
-use Rattle.chain.specs.declared.Bound.{Bound as Entry}
-use Rattle.chain.specs.Clash.{bound_at, listed, Fit, Broken, Found}
-use Rattle.chain.specs.Marks.{note_count, note, Notes, Noted, Marking, Reached, Path, Visiting, Events, codes_from, Writing}
+use Rattle.chain.specs.declared.Note.{Note}
+use Rattle.chain.specs.Clash.{Fit, Broken, Found}
+use Rattle.chain.specs.Marks.{no_notes, note, Notes, Noted, Marking, Reached, Path, Visiting, Events, codes_from, Writing}
 use Rattle.chain.proofs.Notes.{noted_other, noted_same, notes_note}
 use Rattle.chain.proofs.Trail.{Trail, trail}
-use Rattle.chain.proofs.Lead.{Place}
 use Rattle.chain.proofs.Limits.{low, fits, few}
 
-pub listed_at : (list : List Entry) (m k : ℕ) → k < m → m ≤ length list → Memᴰ (bound_at list k) (listed list m)
-listed_at [] m k l h = absurd (omega arith)
-listed_at (x ∷ xs) zero k l h = absurd (omega arith)
-listed_at (x ∷ xs) (suc m) zero l h = Memᴰ.head refl
-listed_at (x ∷ xs) (suc m) (suc k) l h = Memᴰ.tail (listed_at xs m k (omega arith) (omega arith))
-
 -- along a way whose bounds are noted at their starts the notes have its codes
-codes_are : (nx : List ℕ) {e a : ℕ} {bs : List Bound} → Leads e bs a → ((x : Bound) → Memᴰ x bs → Noted nx x)
+codes_are : (nx : List Note) {e a : ℕ} {bs : List Bound} → Leads e bs a → ((x : Bound) → Memᴰ x bs → Noted nx x)
     → codes_from nx e (length bs) ≡ map (λ b. b.code) bs
 codes_are nx stop f = refl
 codes_are nx (step {b = b} {bs = bs} l) f =
@@ -41,39 +34,42 @@ codes_are nx (step {b = b} {bs = bs} l) f =
     ap₂ (λ (c e : ℕ). c ∷ codes_from nx e (length bs)) h.code h.to
     ∙ ap {B = List ℕ} (λ r. b.code ∷ r) (codes_are nx l (λ x i. f x (Memᴰ.tail i)))
 
-module _ (list : List Entry) (d : List ℤ) (n m : ℕ) (nx : List ℕ) (broken : Broken list d n m) where
-  abbrev β : Bound
-  β = bound_at list m
+module _ (bounds : List Bound) (β : Bound) (d : List ℤ) (n : ℕ) (broken : Broken bounds β d n) where
+  fit_before : (x : Bound) → Memᴰ x bounds → Fit n x
+  fit_before x i = broken.given.fit x (Memᴰ.append_left (β ∷ []) i)
 
-  -- before any mark, all notes are 0
-  pub marking : note_count ≤ length nx → ((e : ℕ) → get_or nx e 0 ≡ 0) → Marking list d m β.start β.end nx
-  marking room none = record {
+  fit_last : Fit n β
+  fit_last = broken.given.fit β (Memᴰ.append_right bounds (Memᴰ.head refl))
+
+  pub marking : {s : ℕ} {nx : List Note} → s ≡ 0 → nx ≡ no_notes → Marking bounds d β.start β.end s nx
+  marking e f = record {
+    unmarked = e;
+    blank = f;
     n = n;
-    given = record { long = broken.given.long; inside = omega (arith, broken.given.inside); fit = λ k l. broken.given.fit k (omega arith) };
+    given = record { fit = fit_before };
     table = broken.table;
-    to = (broken.given.fit m (omega arith)).start;
-    from = (broken.given.fit m (omega arith)).end;
+    to = fit_last.start;
+    from = fit_last.end;
     lead = broken.lead;
-    notes = record { room = room; low = λ e. omega (arith, none (2 * e)) };
   }
 
-  -- the notes with bound m at its start
-  abbrev pub closed : List ℕ
-  closed = note nx β
-
   -- its ends are events
-  start_low : β.start < most_events
-  start_low = low broken.table (broken.given.fit m (omega arith)).start
+  pub start_low : β.start < most_events
+  start_low = low broken.table fit_last.start
 
   end_low : β.end < most_events
-  end_low = low broken.table (broken.given.fit m (omega arith)).end
+  end_low = low broken.table fit_last.end
 
-  module _ {nx₀ : List ℕ} (s : ℕ) (marked : Reached list d m β.start β.end nx₀ s nx) where
-    pub start_inside : 2 * β.start + 1 < length nx
+  module _ (s : ℕ) (nx : List Note) (marked : Reached bounds d β.start β.end s nx) where
+    -- the notes with the last bound at its start
+    abbrev pub closed : List Note
+    closed = note nx β
+
+    pub start_inside : β.start < length nx
     start_inside = omega (arith, start_low, marked.notes.room)
 
-    pub way_back : Trail list d m β.start s nx β.end
-    way_back = trail list d m β.start β.end broken.self marked.marks marked.reached
+    pub way_back : Trail bounds d β.start s nx β.end
+    way_back = trail bounds d β.start β.end broken.self marked.marks marked.reached
 
     pub closed_notes : Notes closed
     closed_notes = notes_note nx β start_low end_low marked.notes
@@ -103,14 +99,9 @@ module _ (list : List Entry) (d : List ℤ) (n m : ℕ) (nx : List ℕ) (broken 
       abbrev round : List Bound
       round = β ∷ way_back.steps
 
-      -- each bound of the round is listed and noted at its start, and its start visited
-      place : (x : Bound) → Memᴰ x round → Place list (m + 1) x
-      place x i = ⊎_elim
-          (λ p. record { place = m; low = omega arith; is = sym p })
-          (λ j.
-          let p = (way_back.each x j).place in
-          record { place = p.place; low = omega (arith, p.low); is = p.is })
-          (Memᴰ.cases_cons i)
+      -- each bound of the round is given and noted at its start, and its start visited
+      known : (x : Bound) → Memᴰ x round → Memᴰ x (bounds ++ (β ∷ []))
+      known x i = ⊎_elim (λ p. Memᴰ.append_right bounds (Memᴰ.head p)) (λ j. Memᴰ.append_left (β ∷ []) (way_back.each x j).given) (Memᴰ.cases_cons i)
 
       noted : (x : Bound) → Memᴰ x round → Noted closed x
       noted x i = ⊎_elim (λ p. subst (Noted closed) (sym p) (noted_same nx β start_inside)) (closed_path.noted x) (Memᴰ.cases_cons i)
@@ -119,18 +110,10 @@ module _ (list : List Entry) (d : List ℤ) (n m : ℕ) (nx : List ℕ) (broken 
       visited x i = events.all x.start (⊎_elim (λ p. Memᴰ.cast (ap (λ (y : Bound). y.start) p) (last_entered way_back.leads))
           (λ j. starts_on_way way_back.leads x.start (Memᴰ.map (λ y. y.start) j)) (Memᴰ.cases_cons i))
 
-      bound_fit : (x : Bound) → Memᴰ x round → Fit n x
-      bound_fit x i =
-          let p = place x i in
-          subst (Fit n) p.is (broken.given.fit p.place p.low)
-
-      loop : Loop (λ x. Memᴰ x (listed list (m + 1))) β.start round
+      loop : Loop (λ x. Memᴰ x (bounds ++ (β ∷ []))) β.start round
       loop = record {
         closed = step way_back.leads;
-        given = λ x i.
-            let p = place x i in
-            subst (λ (y : Bound). Memᴰ y (listed list (m + 1))) p.is
-            (listed_at list (m + 1) p.place p.low (omega (arith, broken.given.long, broken.given.inside)));
+        given = known;
         once = way_back.simple;
         negative = omega (ticks, way_back.sums, broken.below, sum β.weight (total way_back.steps));
       }
@@ -161,7 +144,7 @@ module _ (list : List Entry) (d : List ℤ) (n m : ℕ) (nx : List ℕ) (broken 
 
       -- what was written by the notes from the least event on is the chain
       pub found : (from : ℕ) (before after : List ℕ) → from ≡ first → after ≡ over (codes_from closed from (ones r)) before
-          → Found (listed list (m + 1)) before (ones r) after
+          → Found (bounds ++ (β ∷ [])) before (ones r) after
       found from before after e w =
           let turned = loop_turn loop parted in
           let codes = codes_are closed turned.closed (λ x i. noted x (turned_back parted i)) in
@@ -174,7 +157,7 @@ module _ (list : List Entry) (d : List ℤ) (n m : ℕ) (nx : List ℕ) (broken 
             negative = turned.negative;
             least = λ x i.
                 let j = turned_back parted i in
-                lowest_least set_width r x.start (visited x j) (fits (low broken.table (bound_fit x j).start));
+                lowest_least set_width r x.start (visited x j) (fits (low broken.table (broken.given.fit x (known x j)).start));
             counted = counted;
             written = w ∙ ap (λ (l : List ℕ). over l before) (ap₂ (codes_from closed) e counted ∙ codes);
           }

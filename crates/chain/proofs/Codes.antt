@@ -7,7 +7,8 @@ use native.Mathlib.Omega.{arith}
 use lib.ListN.{length, length-append, get_or, set, drop}
 use lib.Seq.{append_snoc, drop-cons, set_at}
 use Rattle.meaning.specs.Outcome.{over}
-use Rattle.chain.specs.Marks.{end_at, code_at, codes_from}
+use Rattle.chain.specs.declared.Note.{Note}
+use Rattle.chain.specs.Marks.{note_at, codes_from}
 
 -- one more at the front
 over_next : (xs old : List ℕ) (i v : ℕ) → length xs ≡ i → i < length old → set (over xs old) i v ≡ over (xs ++ (v ∷ [])) old
@@ -19,7 +20,7 @@ over_next xs old i v e h =
     ∙ sym (append_snoc xs v (drop (suc (length xs)) old))
     ∙ ap (λ (k : ℕ). (xs ++ (v ∷ [])) ++ drop k old) n
 
-module _ (nx : List ℕ) (from c : ℕ) (before : List ℕ) where
+module _ (nx : List Note) (from c : ℕ) (before : List ℕ) where
   -- after i steps, at event e
   pub record Putting (i e : ℕ) (out : List ℕ) : Type 0 where
     pub done : List ℕ
@@ -29,16 +30,17 @@ module _ (nx : List ℕ) (from c : ℕ) (before : List ℕ) where
     pub whole : done ++ codes_from nx e left ≡ codes_from nx from c
     pub holds : out ≡ over done before
 
-  pub put_step : (i e : ℕ) (out : List ℕ) → i < c → c ≤ length before → Putting i e out → Putting (i + 1) (end_at nx e) (set out i (code_at nx e))
+  pub put_step : (i e : ℕ) (out : List ℕ) → i < c → c ≤ length before → Putting i e out → Putting (i + 1) (note_at nx e).next (set out i (note_at nx e).code)
   put_step i e out h r p = at p.left p.sum p.whole
     where
-      at : (left : ℕ) → i + left ≡ c → p.done ++ codes_from nx e left ≡ codes_from nx from c → Putting (i + 1) (end_at nx e) (set out i (code_at nx e))
+      at : (left : ℕ) → i + left ≡ c → p.done ++ codes_from nx e left ≡ codes_from nx from c
+          → Putting (i + 1) (note_at nx e).next (set out i (note_at nx e).code)
       at zero s w = absurd (omega arith)
       at (suc left) s w = record {
-        done = p.done ++ (code_at nx e ∷ []);
+        done = p.done ++ ((note_at nx e).code ∷ []);
         left = left;
         count = simp length-append (omega (arith, p.count));
         sum = omega arith;
-        whole = append_snoc p.done (code_at nx e) (codes_from nx (end_at nx e) left) ∙ w;
-        holds = ap (λ (l : List ℕ). set l i (code_at nx e)) p.holds ∙ over_next p.done before i (code_at nx e) p.count (omega arith);
+        whole = append_snoc p.done (note_at nx e).code (codes_from nx (note_at nx e).next left) ∙ w;
+        holds = ap (λ (l : List ℕ). set l i (note_at nx e).code) p.holds ∙ over_next p.done before i (note_at nx e).code p.count (omega arith);
       }

@@ -1,9 +1,9 @@
--- What a caller needs: distances that are the weights of walks along the first m bounds give the tight way that `chain_of` asks for,
+-- What a caller needs: distances that are the weights of walks along the bounds give the tight way that `chain_of` asks for,
 -- since such a walk is tight at every step; and what it finds is a chain of the plan, of 2 to n steps.
-use mathlib.Core.Path.{◌≡◌, refl, sym, ap, subst, ◌∙◌}
+use mathlib.Core.Path.{◌≡◌, refl, sym, ap, ◌∙◌}
 use mathlib.Core.List.Memᴰ
-use mathlib.Core.List.{List, [], ◌∷◌, map, Memᴰ}
-use Prim.Native.Nat.{ℕ, zero, suc, ◌+◌, ◌≤◌, ◌<◌, zero-le, suc-le-suc}
+use mathlib.Core.List.{List, [], ◌∷◌, ◌++◌, map, Memᴰ}
+use Prim.Native.Nat.{ℕ, ◌≤◌, ◌<◌}
 use native.Mathlib.Omega.{arith}
 use lib.ListN.{length, length-map}
 use lib.IntN.{ℤ}
@@ -16,46 +16,26 @@ use Rattle.meaning.proofs.Walks.{Walk, Walks, step_tight}
 use Rattle.meaning.proofs.Chains.{loop_chain}
 use Rattle.distances.specs.Matrix.{at, Net}
 use Rattle.distances.proofs.Range.{net_near}
-use Rattle.chain.specs.declared.Bound.{Bound as Entry}
-use Rattle.chain.specs.Clash.{bound_at, listed, Tight, Given, Lead, here, by, Broken, Found}
+use Rattle.chain.specs.Clash.{Tight, Given, Lead, here, by, Broken, Found}
 
--- the place of a listed bound
-pub record Place (list : List Entry) (m : ℕ) (x : Bound) : Type 0 where
-  pub place : ℕ
-  pub low : place < m
-  pub is : bound_at list place ≡ x
-
-pub place_of : (list : List Entry) (m : ℕ) (x : Bound) → Memᴰ x (listed list m) → Place list m x
-place_of list zero x i = absurd (Memᴰ.not-nil i)
-place_of [] (suc m) x i = absurd (Memᴰ.not-nil i)
-place_of (b ∷ bs) (suc m) x (Memᴰ.head e) = record { place = 0; low = suc-le-suc zero-le; is = sym e }
-place_of (b ∷ bs) (suc m) x (Memᴰ.tail i) =
-    let p = place_of bs m x i in
-    record { place = suc p.place; low = suc-le-suc p.low; is = p.is }
-
-module _ (list : List Entry) (d : List ℤ) (m a : ℕ) where
-  -- a way along tight bounds of the list
-  along : {u : ℕ} {bs : List Bound} → Leads u bs a → ((x : Bound) → Memᴰ x bs → Memᴰ x (listed list m))
-      → ((x : Bound) → Memᴰ x bs → Tight d a x) → Lead list d m a u
+module _ (bounds : List Bound) (d : List ℤ) (a : ℕ) where
+  -- a way along tight ones of the bounds
+  along : {u : ℕ} {bs : List Bound} → Leads u bs a → ((x : Bound) → Memᴰ x bs → Memᴰ x bounds) → ((x : Bound) → Memᴰ x bs → Tight d a x) → Lead bounds d a u
   along stop f g = here refl
-  along (step {b = b} l) f g =
-      let p = place_of list m b (f b (Memᴰ.head refl)) in
-      by p.place p.low (ap (λ (x : Bound). x.start) (sym p.is))
-      (subst (Tight d a) (sym p.is) (g b (Memᴰ.head refl)))
-      (subst (λ (x : Bound). Lead list d m a x.end) (sym p.is) (along l (λ x i. f x (Memᴰ.tail i)) (λ x i. g x (Memᴰ.tail i))))
+  along (step {b = b} l) f g = by b (f b (Memᴰ.head refl)) refl (g b (Memᴰ.head refl)) (along l (λ x i. f x (Memᴰ.tail i)) (λ x i. g x (Memᴰ.tail i)))
 
-  pub walk_lead : {n b : ℕ} → Closed n (at d) → b < n → a < n → Walk n (λ x. Memᴰ x (listed list m)) (at d) b a (at d b a) → Lead list d m a b
+  pub walk_lead : {n b : ℕ} → Closed n (at d) → b < n → a < n → Walk n (λ x. Memᴰ x bounds) (at d) b a (at d b a) → Lead bounds d a b
   walk_lead c hb ha w = along w.leads (λ x i. (w.known x i).given) (step_tight c hb ha w.leads w.sums w.known)
 
-pub broken : {list : List Entry} {n H m : ℕ} {d : List ℤ} → Net n H d → Given list n (m + 1) → Walks n (λ x. Memᴰ x (listed list m)) (at d)
-    → Clashes (bound_at list m) (at d) → Broken list d n m
-broken {list} {m = m} {d = d} net given walks clash =
-    let f = given.fit m (omega arith) in
+pub broken : {before : List Bound} {last : Bound} {n H : ℕ} {d : List ℤ} → Net n H d → Given (before ++ (last ∷ [])) n → Walks n (λ x. Memᴰ x before) (at d)
+    → Clashes last (at d) → Broken before last d n
+broken {before} {last} {d = d} net given walks clash =
+    let f = given.fit last (Memᴰ.append_right before (Memᴰ.head refl)) in
     record {
       given = given;
-      table = record { size = net.size; events = net.events; near = net_near net };
+      table = record { events = net.events; near = net_near net };
       self = net.closed.diag f.start;
-      lead = walk_lead list d m (bound_at list m).start net.closed f.end f.start (walks.walk f.end f.start);
+      lead = walk_lead before d last.start net.closed f.end f.start (walks.walk f.end f.start);
       below = clash;
     }
 

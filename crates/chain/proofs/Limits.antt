@@ -1,6 +1,5 @@
 -- How many events: each event of a table is one of most_events, each of these fits into a set, and bounds of the list that enter no event
 -- twice are at most as many as the events.
-use mathlib.Core.Path.{subst}
 use mathlib.Core.List.{List, Memᴰ}
 use Prim.Native.Nat.{ℕ, ◌≤◌, ◌<◌}
 use native.Mathlib.Omega.{arith}
@@ -11,9 +10,7 @@ use Rattle.eventset.specs.Sets.{set_width}
 use Rattle.meaning.specs.Plan.{most_events}
 use Rattle.meaning.specs.Bounds.{Bound, distinct, ends}
 use Rattle.meaning.proofs.Pigeons.{steps_most}
-use Rattle.chain.specs.declared.Bound.{Bound as Entry}
-use Rattle.chain.specs.Clash.{listed, Table, Given}
-use Rattle.chain.proofs.Lead.{place_of}
+use Rattle.chain.specs.Clash.{Table, Given}
 
 -- an event of a table is below the limit
 pub low : {d : List ℤ} {n e : ℕ} → Table d n → e < n → e < most_events
@@ -23,9 +20,6 @@ low t h = omega (arith, t.events)
 pub fits : {e : ℕ} → e < most_events → e < set_width
 fits h = omega arith
 
-pub few : {list : List Entry} {n m : ℕ} → Given list n m → (bs : List Bound) → ((x : Bound) → Memᴰ x bs → Memᴰ x (listed list m))
+pub few : {bounds : List Bound} {n : ℕ} → Given bounds n → (bs : List Bound) → ((x : Bound) → Memᴰ x bs → Memᴰ x bounds)
     → T (distinct (ends bs)) → length bs ≤ n
-few {list} {n} {m} given bs known once = steps_most n bs below once
-  where
-    below : (x : Bound) → Memᴰ x bs → x.end < n
-    below x i = let p = place_of list m x (known x i) in subst (λ (y : Bound). y.end < n) p.is (given.fit p.place p.low).end
+few {n = n} given bs known once = steps_most n bs (λ x i. (given.fit x (known x i)).end) once

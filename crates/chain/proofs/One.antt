@@ -1,8 +1,8 @@
 -- What `Found` leaves free is the chain, and nothing else: past its codes the area is as before, and it is as long as before, since the
 -- codes fit; so two results over one area differ in the codes of their chains only.
 use mathlib.Core.Path.{◌≡◌, sym, ap, ◌∙◌}
-use mathlib.Core.List.{List, map}
-use Prim.Native.Nat.{ℕ, ◌+◌, ◌≤◌}
+use mathlib.Core.List.{List, [], ◌∷◌, ◌++◌, map}
+use Prim.Native.Nat.{ℕ, ◌≤◌}
 use native.Mathlib.Omega.{arith}
 use lib.ListN.{length, get_or, length-map}
 use lib.IntN.{ℤ}
@@ -10,8 +10,7 @@ use Rattle.meaning.specs.Plan.{most_events}
 use Rattle.meaning.specs.Bounds.{Bound}
 use Rattle.meaning.specs.Outcome.{over}
 use Rattle.meaning.proofs.Over.{over_long, over_rest}
-use Rattle.chain.specs.declared.Bound.{Bound as Entry}
-use Rattle.chain.specs.Clash.{listed, Given, Broken, Found}
+use Rattle.chain.specs.Clash.{Given, Broken, Found}
 use Rattle.chain.proofs.Limits.{few}
 
 -- ---- one result
@@ -47,12 +46,12 @@ module _ {bounds : List Bound} {before : List ℕ} where
 
 -- ---- the codes fit: no event is entered twice, and there are n
 
-pub found_most : {list : List Entry} {n m r : ℕ} {before after : List ℕ} → Given list n m → Found (listed list m) before r after → r ≤ n
+pub found_most : {bounds : List Bound} {n r : ℕ} {before after : List ℕ} → Given bounds n → Found bounds before r after → r ≤ n
 found_most given f = omega (arith, f.counted, few given f.steps f.given f.once)
 
 -- what `chain_of` asks for is enough
-pub one_chain : {list : List Entry} {d : List ℤ} {n m q r : ℕ} {before x y : List ℕ} → Broken list d n m → most_events ≤ length before
-    → (f : Found (listed list (m + 1)) before q x) (g : Found (listed list (m + 1)) before r y) → OneFound f g
+pub one_chain : {kept : List Bound} {last : Bound} {d : List ℤ} {n q r : ℕ} {before x y : List ℕ} → Broken kept last d n → most_events ≤ length before
+    → (f : Found (kept ++ (last ∷ [])) before q x) (g : Found (kept ++ (last ∷ [])) before r y) → OneFound f g
 one_chain broken room f g =
     one_found f g
     (omega (arith, found_most broken.given f, broken.table.events))

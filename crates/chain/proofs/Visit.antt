@@ -16,7 +16,8 @@ use Rattle.eventset.proofs.Listed.{set_of, set_snoc}
 use Rattle.meaning.specs.Bounds.{Bound, Leads, stop, step, distinct, ends}
 use Rattle.meaning.proofs.Distinct.{distinct_head, distinct_tail, distinct_apart}
 use Rattle.meaning.proofs.Chains.{last_entered}
-use Rattle.chain.specs.Marks.{end_at, Path, Events}
+use Rattle.chain.specs.declared.Note.{Note}
+use Rattle.chain.specs.Marks.{note_at, Path, Events}
 use Rattle.chain.proofs.Marks.{not_both}
 
 -- ---- the set of a list's events
@@ -55,7 +56,7 @@ leads_first (step l) = (refl, l)
 
 -- ---- under way
 
-module _ (nx : List ℕ) (a b : ℕ) (steps : List Bound) where
+module _ (nx : List Note) (a b : ℕ) (steps : List Bound) where
   pub record Passing (s e : ℕ) : Type 0 where
     pub done : List ℕ
     pub rest : List Bound
@@ -66,7 +67,7 @@ module _ (nx : List ℕ) (a b : ℕ) (steps : List Bound) where
 
   pub record Next (s e : ℕ) : Type 0 where
     pub fresh : member s e ≡ false
-    pub then : Passing (put_in s e) (end_at nx e)
+    pub then : Passing (put_in s e) (note_at nx e).next
 
   pub pass_start : Path nx a b steps → Passing 0 b
   pass_start p = record { done = []; rest = steps; path = p; whole = refl; simple = p.simple; set = refl }
@@ -78,7 +79,7 @@ module _ (nx : List ℕ) (a b : ℕ) (steps : List Bound) where
       at [] q w = absurd (n (leads_none q.leads))
       at (x ∷ xs) q w =
           let f = leads_first q.leads in
-          let is : end_at nx e ≡ x.end = ap (end_at nx) (sym f.0) ∙ (q.noted x (mathlib.Core.List.Memᴰ.head refl)).to in
+          let is : (note_at nx e).next ≡ x.end = ap (λ (y : ℕ). (note_at nx y).next) (sym f.0) ∙ (q.noted x (mathlib.Core.List.Memᴰ.head refl)).to in
           let apart = subst (λ (l : List ℕ). T (distinct l)) (sym w) p.simple in
           let new : Memᴰ e p.done → ⊥ = λ i. distinct_apart p.done (e ∷ ends (x ∷ xs)) apart e i (mathlib.Core.List.Memᴰ.head refl) in
           record {

@@ -1,18 +1,17 @@
 // When a bound fails: the closed chain that it makes with the bounds before it.
 #![tactic(auto)]
 
-ghost use Rattle.std.specs.Prelude.{◌≡◌, ℕ, ◌+◌, ◌*◌, ◌≤◌, ◌<◌, length};
+ghost use Rattle.std.specs.Prelude.{◌≡◌, ℕ, [], ◌∷◌, ◌++◌, ◌≤◌, ◌<◌, length};
 ghost use Rattle.std.specs.Int.Count.{ones};
 ghost use Rattle.eventset.specs.Sets.{bits_of};
 ghost use Rattle.meaning.specs.Plan.{most_events};
-ghost use Rattle.chain.specs.Clash.{bound_of, bound_at, Tight, listed, Broken, Found};
-ghost use Rattle.chain.specs.Marks.{note_count, note as noteIn, Looking, Decided, Look, Scanning, Scanned, Marking, Reached};
+ghost use Rattle.chain.specs.Clash.{bound_of, bounds_of, Tight, Broken, Found};
+ghost use Rattle.chain.specs.Marks.{no_notes, note as noteIn, Looking, Decided, Look, Scanning, Scanned, Marking, Reached};
 ghost use Rattle.chain.specs.Marks.{Visiting, Visited, Writing, Written};
 
-use scope::{MOST_BOUNDS, MOST_EVENTS};
-
-// The end and the code of a bound for each event.
-const NOTES: usize = 2 * MOST_EVENTS;
+use distances::Matrix;
+use eventset::EventSet;
+use scope::MOST_EVENTS;
 
 // The event `end` comes at most `weight` after the event `start`.
 #[derive(Clone, Copy)]
@@ -23,167 +22,132 @@ pub struct Bound {
     pub weight: i32,
 }
 
+// What is noted of a bound at its start: where it ends, and its code.
+#[derive(Clone, Copy)]
+struct Note {
+    next: u8,
+    code: u16,
+}
+
+// Marked events, and at each of them the note of the bound by which it was marked.
+#[derive(Drop)]
+struct Marked {
+    events: EventSet,
+    notes: [Note; MOST_EVENTS],
+}
+
 // Is the bound tight towards a? The distance from its end to a is the sum of the weights along a way; this adds one more.
-fn tight(d: &[i32], b: Bound, a: usize) -> bool
-    requires { Looking d.now a (bound_of b) }
-    ensures { Decided (Tight d.now a (bound_of b)) result }
+fn tight(d: &Matrix, b: Bound, a: usize) -> bool
+    requires { Looking d.now.entries a (bound_of b) }
+    ensures { Decided (Tight d.now.entries a (bound_of b)) result }
 {
-    let u = widths::from_u8(b.start);
-    let v = widths::from_u8(b.end);
-    let sum = ticks::plus(b.weight, distances::distance(d, v, a));
-    ticks::equal(distances::distance(d, u, a), sum)
+    let u = usize::from(b.start);
+    let v = usize::from(b.end);
+    d.distance(u, a) == b.weight + d.distance(v, a)
 }
 
-// Notes a bound at its start: where it ends, and its code.
-fn note(notes: &mut [u16], b: Bound)
-    requires { 2 * (bound_of b).start + 1 < length notes.old }
-    ensures { notes.new ≡ noteIn notes.old (bound_of b) }
-{
-    let u = widths::from_u8(b.start);
-    notes[2 * u] = widths::to_u16(widths::from_u8(b.end));
-    notes[2 * u + 1] = b.code;
-}
-
-// Looks at a bound: where its end is marked, its start is not and it is tight, its start is marked and the bound noted there.
-fn look(
-    d: &[i32],
-    b: Bound,
-    a: usize,
-    seen: eventset::EventSet,
-    notes: &mut [u16],
-) -> eventset::EventSet
-    requires { Looking d.now a (bound_of b) × (note_count ≤ length notes.old) }
-    ensures { Look d.now a (bound_of b) (bits_of seen) notes.old (bits_of result) notes.new }
-{
-    let u = widths::from_u8(b.start);
-    let v = widths::from_u8(b.end);
-    if eventset::has(seen, u) {
-        return seen;
+impl Marked {
+    // No event is marked yet.
+    fn none() -> Marked
+        ensures unmarked { bits_of result.events ≡ 0 }
+        ensures blank { result.notes ≡ no_notes }
+    {
+        let blank = Note { next: 0, code: 0 };
+        Marked {
+            events: EventSet::empty(),
+            notes: [blank; MOST_EVENTS],
+        }
     }
-    if !eventset::has(seen, v) {
-        return seen;
+
+    // Notes a bound at its start.
+    fn note(&mut self, b: Bound)
+        requires { (bound_of b).start < most_events }
+        ensures same_events { self.new.events ≡ self.old.events }
+        ensures noted { self.new.notes ≡ noteIn self.old.notes (bound_of b) }
+    {
+        self.notes[usize::from(b.start)] = Note {
+            next: b.end,
+            code: b.code,
+        };
     }
-    if !tight(d, b, a) {
-        return seen;
+
+    // Looks at a bound: where its end is marked, its start is not and it is tight, its start is marked and the bound noted there.
+    fn look(&mut self, d: &Matrix, b: Bound, a: usize)
+        requires { Looking d.now.entries a (bound_of b) }
+        ensures { Look d.now.entries a (bound_of b) (bits_of self.old.events) self.old.notes (bits_of self.new.events) self.new.notes }
+    {
+        let u = usize::from(b.start);
+        let v = usize::from(b.end);
+        if !self.events.has(u) && self.events.has(v) && tight(d, b, a) {
+            self.events = self.events.put(u);
+            self.note(b);
+        }
     }
-    note(notes, b);
-    eventset::put(seen, u)
-}
 
-// Reads bound k of the list and looks at it.
-fn look_at(
-    list: &[Bound],
-    k: usize,
-    d: &[i32],
-    a: usize,
-    seen: eventset::EventSet,
-    notes: &mut [u16],
-) -> eventset::EventSet
-    requires { (k < length list.now) × (Looking d.now a (bound_at list.now k) × (note_count ≤ length notes.old)) }
-    ensures { Look d.now a (bound_at list.now k) (bits_of seen) notes.old (bits_of result) notes.new }
-{
-    let b = list[k];
-    look(d, b, a, seen, notes)
-}
-
-// One scan of the first m bounds.
-fn scan(
-    list: &[Bound],
-    m: usize,
-    d: &[i32],
-    a: usize,
-    from: eventset::EventSet,
-    notes: &mut [u16],
-) -> eventset::EventSet
-    requires { Scanning list.now d.now m a notes.old }
-    ensures { Scanned list.now d.now m a (bits_of from) notes.old (bits_of result) notes.new }
-{
-    let mut seen = from;
-    let mut k = 0;
-    while k < m {
-        seen = look_at(list, k, d, a, seen, notes);
-        k += 1;
+    // One scan of the list.
+    fn scan(&mut self, list: &[Bound], d: &Matrix, a: usize)
+        requires { Scanning (bounds_of list.now) d.now.entries a self.old.notes }
+        ensures { Scanned (bounds_of list.now) d.now.entries a (bits_of self.old.events) self.old.notes
+            (bits_of self.new.events) self.new.notes }
+    {
+        for &b in list {
+            self.look(d, b, a);
+        }
     }
-    seen
-}
 
-// A scan of the list, lent: who calls this holds it by value.
-fn scan_listed(
-    list: [Bound; MOST_BOUNDS],
-    m: usize,
-    d: &[i32],
-    a: usize,
-    from: eventset::EventSet,
-    notes: &mut [u16],
-) -> eventset::EventSet
-    requires { Scanning list d.now m a notes.old }
-    ensures { Scanned list d.now m a (bits_of from) notes.old (bits_of result) notes.new }
-{
-    scan(&list, m, d, a, from, notes)
-}
-
-// Marks events from a backwards until b is marked.
-fn mark(
-    list: [Bound; MOST_BOUNDS],
-    m: usize,
-    d: &[i32],
-    a: usize,
-    b: usize,
-    notes: &mut [u16],
-) -> eventset::EventSet
-    requires { Marking list d.now m a b notes.old }
-    ensures { Reached list d.now m a b notes.old (bits_of result) notes.new }
-{
-    let mut seen = eventset::put(eventset::empty(), a);
-    while !eventset::has(seen, b) {
-        seen = scan_listed(list, m, d, a, seen, notes);
+    // Marks a, and events from there backwards until b is marked.
+    fn reach(&mut self, list: &[Bound], d: &Matrix, a: usize, b: usize)
+        requires { Marking (bounds_of list.now) d.now.entries a b (bits_of self.old.events) self.old.notes }
+        ensures { Reached (bounds_of list.now) d.now.entries a b (bits_of self.new.events) self.new.notes }
+    {
+        self.events = self.events.put(a);
+        while !self.events.has(b) {
+            self.scan(list, d, a);
+        }
     }
-    seen
-}
 
-// The events on the way from b to a by the notes.
-fn events(notes: &[u16], a: usize, b: usize) -> eventset::EventSet
-    requires { Visiting notes.now a b }
-    ensures { Visited notes.now a b (bits_of result) }
-{
-    let mut seen = eventset::empty();
-    let mut e = b;
-    while e != a {
-        seen = eventset::put(seen, e);
-        e = widths::from_u16(notes[2 * e]);
+    // The events on the way from b to a by the notes.
+    fn visited(&self, a: usize, b: usize) -> EventSet
+        requires { Visiting self.now.notes a b }
+        ensures { Visited self.now.notes a b (bits_of result) }
+    {
+        let mut seen = EventSet::empty();
+        let mut e = b;
+        while e != a {
+            seen = seen.put(e);
+            e = usize::from(self.notes[e].next);
+        }
+        seen.put(e)
     }
-    eventset::put(seen, e)
-}
 
-// Writes the codes of a closed chain from one of its events on, by the notes: as many steps as it has events. Returns their number.
-fn write(notes: &[u16], from: usize, seen: eventset::EventSet, out: &mut [u16]) -> usize
-    requires { Writing notes.now from (ones (bits_of seen)) out.old }
-    ensures { Written notes.now from (ones (bits_of seen)) out.old result out.new }
-{
-    let count = eventset::count(seen);
-    let mut e = from;
-    let mut steps = 0;
-    while steps < count {
-        out[steps] = notes[2 * e + 1];
-        e = widths::from_u16(notes[2 * e]);
-        steps += 1;
+    // Writes the codes of a closed chain from one of its events on, by the notes: as many steps as it has events. Returns their number. By index: after
+    // `iter_mut` a proof knows the number of codes alone.
+    fn write(&self, from: usize, seen: EventSet, out: &mut [u16]) -> usize
+        requires { Writing self.now.notes from (ones (bits_of seen)) out.old }
+        ensures { Written self.now.notes from (ones (bits_of seen)) out.old result out.new }
+    {
+        let count = seen.count();
+        let mut e = from;
+        for i in 0..count {
+            out[i] = self.notes[e].code;
+            e = usize::from(self.notes[e].next);
+        }
+        count
     }
-    steps
 }
 
-// Bound m cannot be kept with the bounds before it, whose distances are d: writes the codes of a chain that shows it, from its least
-// event on. Returns the number of steps.
-pub fn chain_of(list: [Bound; MOST_BOUNDS], m: usize, d: &[i32], out: &mut [u16]) -> usize
-    requires { ((n : ℕ) × Broken list d.now n m) × (most_events ≤ length out.old) }
-    ensures { Found (listed list (m + 1)) out.old result out.new }
+// A bound cannot be kept with those before it, whose distances are d: writes the codes of a chain that shows it, from its least event on.
+// Returns the number of steps.
+pub fn chain_of(before: &[Bound], last: Bound, d: &Matrix, out: &mut [u16]) -> usize
+    requires { ((n : ℕ) × Broken (bounds_of before.now) (bound_of last) d.now.entries n) × (most_events ≤ length out.old) }
+    ensures { Found (bounds_of before.now ++ (bound_of last ∷ [])) out.old result out.new }
 {
-    let last = list[m];
-    let a = widths::from_u8(last.start);
-    let b = widths::from_u8(last.end);
-    let mut notes = [0; NOTES];
-    mark(list, m, d, a, b, &mut notes);
-    note(&mut notes, last);
-    let seen = events(&notes, a, b);
-    let from = eventset::lowest(seen);
-    write(&notes, from, seen, out)
+    let a = usize::from(last.start);
+    let b = usize::from(last.end);
+    let mut marked = Marked::none();
+    marked.reach(before, d, a, b);
+    marked.note(last);
+    let seen = marked.visited(a, b);
+    let from = seen.lowest();
+    marked.write(from, seen, out)
 }

@@ -1,11 +1,10 @@
 -- The bound that a code names: what the rows of memory say of it, and that the bounds of a plan have names.
-use mathlib.Core.Path.{◌≡◌, refl, sym, ap, ◌∙◌, subst}
+use mathlib.Core.Path.{◌≡◌, refl, sym, ◌∙◌, subst}
 use mathlib.Core.Bool.{Bool, true, false, cond, not, ◌&&◌}
 use Prim.Native.Nat.{ℕ, ◌+◌, ◌*◌, ◌-◌, ◌/◌, ◌%◌, ◌≤◌, ◌<◌}
 use native.Mathlib.Omega.{arith}
 use borrow.Author.Tests.{eq-eqb, ne_eqb, lt-ltb, le-ltb, eqb-true, eqb-false, ltb-true, ltb-false, not-true}
 use lib.Dec.{eqb, ltb}
-use lib.IntN.{ℤ, pos, neg_ℤ}
 use lib.ListN.{length}
 use Rattle.meaning.specs.Plan as M
 use Rattle.meaning.specs.Plan.{most_records, record_at}
@@ -13,35 +12,11 @@ use Rattle.meaning.specs.Bounds.{Bound, horizon_codes, upper, lower, horizon_upp
 use Rattle.meaning.specs.Faultless.{WithoutFault}
 use Rattle.meaning.proofs.Tests.{both}
 use Rattle.meaning.proofs.Bounds.{Given, each_bound, given_upper, given_lower, given_horizon_upper, given_horizon_lower}
-use Rattle.plan.specs.declared.Record.{Record}
-use Rattle.plan.specs.Held.{row_of}
-use Rattle.cut.specs.declared.Ends.{Ends}
-use Rattle.cut.specs.Cut.{allowed}
 use Rattle.codes.specs.Codes.{named, is_code, has_code, of_record, of_horizon}
 
 -- ---- a code and the record or the event that it names
 
-abbrev pub bound : ℕ → ℕ → ℤ → ℕ → Bound
-bound a b w c = record { start = a; end = b; weight = w; code = c }
-
-pub bound_same : {a a' b b' c : ℕ} {w w' : ℤ} → a ≡ a' → b ≡ b' → w ≡ w' → bound a b w c ≡ bound a' b' w' c
-bound_same {c = c} e f g = λ i. bound (e i) (f i) (g i) c
-
 module _ (p : M.Plan) (c : ℕ) where
-  module _ (r : Record) (first : ℕ) (e : r ≡ row_of first (record_at p (c / 2))) (ends : Ends) (f : ends ≡ allowed (record_at p (c / 2))) where
-    pub name_upper : c % 2 ≡ 0 → bound r.a r.b ends.hi c ≡ of_record p c
-    name_upper o = rw (eq-eqb (c % 2) 0 o, e, f) (ap (bound _ _ _) (omega arith))
-
-    pub name_lower : (c % 2 ≡ 0 → ⊥) → bound r.b r.a (neg_ℤ ends.lo) c ≡ of_record p c
-    name_lower o = rw (ne_eqb (c % 2) 0 o, e, f) (ap (bound _ _ _) (omega arith))
-
-  module _ (l : horizon_codes ≤ c) where
-    pub name_horizon_upper : c % 2 ≡ 0 → bound 0 ((c - horizon_codes) / 2) (pos p.horizon) c ≡ of_horizon p c
-    name_horizon_upper o = rw (eq-eqb (c % 2) 0 o) (ap (bound _ _ _) (omega arith))
-
-    pub name_horizon_lower : (c % 2 ≡ 0 → ⊥) → bound ((c - horizon_codes) / 2) 0 (pos 0) c ≡ of_horizon p c
-    name_horizon_lower o = rw (ne_eqb (c % 2) 0 o) (ap (bound _ _ _) (omega arith))
-
   pub name_record : c < horizon_codes → named p c ≡ of_record p c
   unfolding named
   name_record l = rw (lt-ltb c horizon_codes l)

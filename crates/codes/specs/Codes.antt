@@ -1,7 +1,9 @@
 -- The bound that a code names: document 01, section 5; and which codes are those of a plan's bounds.
-use Rattle.std.specs.Prelude.{ℕ, ◌-◌, ◌/◌, ◌%◌, Bool, cond, ◌&&◌, not, eqb, ltb, length}
+use Rattle.std.specs.Prelude.{◌≡◌, ℕ, ◌-◌, ◌/◌, ◌%◌, ◌≤◌, ◌<◌, Bool, cond, ◌&&◌, not, eqb, ltb, length}
 use Rattle.meaning.specs.Plan.{Plan, record_at}
 use Rattle.meaning.specs.Bounds.{Bound, horizon_codes, upper, lower, horizon_upper, horizon_lower}
+use Rattle.codes.specs.declared.Owner.{Owner}
+use Rattle.codes.specs.declared.Owner.TheVariants.{Record, Event}
 use Rattle.codes.specs.declared.Step.{Step}
 
 -- 2k and 2k + 1 of record k, from horizon_codes on two for each event
@@ -13,6 +15,11 @@ of_horizon p c = cond (eqb (c % 2) 0) (horizon_upper p.horizon ((c - horizon_cod
 
 unfoldable pub named : Plan → ℕ → Bound
 named p c = cond (ltb c horizon_codes) (of_record p c) (of_horizon p c)
+
+-- the record or the event whose bound has the code
+abbrev pub Owns : ℕ → Owner → Type 0
+Owns c (Record k) = (c < horizon_codes) × (k ≡ c / 2)
+Owns c (Event e) = (horizon_codes ≤ c) × (e ≡ (c - horizon_codes) / 2)
 
 -- whether a plan of so many events and records has a bound with this code
 unfoldable pub is_code : ℕ → ℕ → ℕ → Bool

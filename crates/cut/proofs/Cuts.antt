@@ -1,16 +1,17 @@
 -- The cut of a row: its distances fit a number, a row of a plan in memory can be cut, and the distances that it allows are those of its record.
-use mathlib.Core.Path.{◌≡◌, refl, ap, ◌∙◌}
+use mathlib.Core.Path.{◌≡◌, refl, sym, ap, ◌∙◌}
 use mathlib.Core.Bool.{Bool, true, false, cond}
 use mathlib.Core.List.{List}
 use Prim.Native.Nat.{ℕ, ◌+◌, ◌-◌, ◌≤◌, ◌<◌, zero-le}
 use native.Mathlib.Omega.{arith}
 use native.Mathlib.Decide.{dec_lt}
 use lib.Dec.{eqb}
-use lib.ListN.{length}
+use lib.ListN.{length, take, drop}
 use lib.Seq.{slice, length-slice}
 use lib.IntN.{ℤ, pos, neg_ℤ, ◌+ℤ◌, ◌-ℤ◌}
 use mir.Syntax.{w32}
 use mir.Val.{SFits}
+use Rattle.std.proofs.lemmas.List.{drop-take}
 use Rattle.ticks.proofs.Ticks.{ticks, sum}
 use Rattle.meaning.specs.Plan as M
 use Rattle.meaning.specs.Plan.{record_at, Within, most_end, most_levels, least_level}
@@ -19,8 +20,8 @@ use Rattle.meaning.specs.Faultless.{Levelled, GoodRecord}
 use Rattle.meaning.proofs.Runs.{first_most, past_most}
 use Rattle.plan.specs.declared.Record.{Record}
 use Rattle.plan.specs.declared.Plan.{Plan}
-use Rattle.plan.specs.Held.{levels_in, levels_at, InMemory}
-use Rattle.plan.proofs.Use.{row_at, RowHeld, record_of, row_blank, row_held, record_at_lem}
+use Rattle.plan.specs.Held.{levels_in, levels_at, record_of, InMemory}
+use Rattle.plan.proofs.Use.{row_at, RowHeld, row_blank, row_held, record_at_lem}
 use Rattle.cut.specs.Cut.{Reach, Cutting, allowed, run_of, ends_of}
 
 -- ---- a distance within a wish's levels fits, and so does the one before it
@@ -45,10 +46,13 @@ module _ {x : Record} {held : List ℕ} (c : Cutting x held) where
   pub past_reach : (y : ℕ) → Reach x.lo (run_past y (levels_at x held))
   past_reach y = record { ends = c.reach.ends; few = omega (arith, c.reach.few, long, past_most y (levels_at x held)) }
 
--- what was found in the area, counted from where the row's levels begin
-pub counted : (f : List ℕ → ℕ) (x : Record) (held : List ℕ) {at n r : ℕ} → at ≡ x.first → n ≡ x.count →
-    r ≡ at + f (slice at (at + n) held) → r - at ≡ f (levels_at x held)
-counted f x held {at} {n} {r} p q e = rw (← p, ← q) (omega (arith, e))
+-- what the code takes from place `at` on, n levels long, as the definitions say it
+pub slice_here : (at n : ℕ) (held : List ℕ) → take (at + n - at) (drop at held) ≡ slice at (at + n) held
+slice_here at n held = let m : at + n - at ≡ n = omega arith in rw m (sym (drop-take at n held))
+
+-- so the levels of a row
+pub levels_here : (x : Record) (held : List ℕ) {at n : ℕ} → at ≡ x.first → n ≡ x.count → take (at + n - at) (drop at held) ≡ levels_at x held
+levels_here x held {at} {n} p q = rw (← p, ← q) (slice_here at n held)
 
 -- ---- a plan in memory
 

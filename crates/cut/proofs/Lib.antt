@@ -1,3 +1,2 @@
 -- The laws that belong to no one function.
-mod Looks
 pub mod Cuts

@@ -93,16 +93,6 @@ module _ {n a b : ℕ} {lo hi : ℤ} {d : List ℤ} (asked : Narrowing n a b lo 
   pub low_range : Within (neg_ℤ (pos most_end)) lo (pos most_end)
   low_range = record { above = asked.low; below = omega (ticks, m.some, asked.high) }
 
-  pub upper_asked : Adding n a b hi d
-  upper_asked =
-      record {
-        horizon = asked.horizon;
-        net = asked.net;
-        from = asked.from;
-        to = asked.to;
-        weight = record { above = omega (ticks, m.some, asked.low); below = asked.high };
-      }
-
   pub lower_asked : {d₁ : List ℤ} → Changed n n d d₁ (added (at d) a b hi) → Adding n b a (neg_ℤ lo) d₁
   lower_asked r =
       let k = low_range in

@@ -14,8 +14,8 @@ use Rattle.distances.specs.Sweep.{Swept}
 use Rattle.distances.proofs.Rows.{one_result, one_matrix}
 
 -- `start`
-pub one_start : {n h : ℕ} {d x y : List ℤ} → Starting n h d → Started n h x × Beside n d x → Started n h y × Beside n d y → x ≡ y
-one_start asked u v = one_matrix asked.size asked.events u.1 v.1 (λ i j p q. u.0.start i j p q ∙ sym (v.0.start i j p q))
+pub one_start : {n h : ℕ} {d x y : List ℤ} → Starting n h → Started n h x × Beside n d x → Started n h y × Beside n d y → x ≡ y
+one_start asked u v = one_matrix (sym u.1.long ∙ u.0.size) asked.events u.1 v.1 (λ i j p q. u.0.start i j p q ∙ sym (v.0.start i j p q))
 
 -- two answers that are the same are both yes or both no
 alike : {x y : List ℤ} {q r : Bool} → q ≡ r → (q ≡ true → r ≡ true → x ≡ y) → (q ≡ false → r ≡ false → x ≡ y) → (q ≡ r) × (x ≡ y)

@@ -49,9 +49,6 @@ rows_more {d} {d'} {d''} {m} {n} {f} le r s =
 pub rows_next : {d d' : List ℤ} {m n : ℕ} {f : ℕ → ℕ → ℤ} → Changed m n d d' f → (j : ℕ) → at d' m j ≡ at d m j
 rows_next {m = m} r j = r.rest (m * stride + j) (omega arith)
 
-pub rows_all : {d d' : List ℤ} {m m' n : ℕ} {f : ℕ → ℕ → ℤ} → Changed m n d d' f → m ≤ m' → m' ≤ m → Changed m' n d d' f
-rows_all {m = m} {m' = m'} s l g = let e : m ≡ m' = omega arith in rw e at s
-
 -- the bound from a to b of weight w is in the first i rows of d₀, and via is row b of d₀
 pub record So-far (d₀ d via : List ℤ) (n a b i : ℕ) (w : ℤ) : Type 0 where
   pub most : i ≤ n

@@ -1,18 +1,13 @@
--- A loop that writes one entry a turn, from b on: before its first turn, one turn more, at its end.
+-- A loop that writes one entry a turn, from b on: one turn more, and what it has written.
 use Prim.Native.Nat.{ℕ, ◌+◌, ◌<◌, ◌≤◌}
 use mathlib.Core.Path.{◌≡◌, refl, sym, ◌∙◌}
 use mathlib.Core.List.{List}
 use native.Mathlib.Omega.{arith}
-use native.Mathlib.Nat.{not-suc-le-zero}
 use lib.ListN.{length, get_or, set, take, drop, length-set, length-drop, take-append-drop}
 use lib.Seq.{get_or-set_same, get_or-set_other, get_or-take, get_or-drop, length-take-le, ext_get_or}
 use borrow.Author.Count.{below_more}
 use Rattle.meaning.specs.Outcome.{over}
 use Rattle.distances.specs.Sweep.{Swept}
-
-pub swept_none : {A : Type 0} {z : A} {d : List A} {b : ℕ} {f : ℕ → A} → Swept z d d b 0 f
-swept_none =
-    record { long = refl; done = λ j l. absurd (not-suc-le-zero l); below = λ k l. refl; above = λ k l. refl }
 
 pub swept_more : {A : Type 0} {z : A} {d d' : List A} {b n : ℕ} {f : ℕ → A} (k : ℕ) (v : A)
     → Swept z d d' b n f → k ≡ b + n → k < length d → v ≡ f n → Swept z d (set d' k v) b (n + 1) f
@@ -27,10 +22,6 @@ swept_more {z = z} {d} {d'} {b} {n} {f} k v s here room val =
       below = λ j l. get_or-set_other d' k j v z (λ e. omega arith) ∙ s.below j l;
       above = λ j l. get_or-set_other d' k j v z (λ e. omega arith) ∙ s.above j (omega arith);
     }
-
--- where the loop ends
-pub swept_all : {A : Type 0} {z : A} {d d' : List A} {b n m : ℕ} {f : ℕ → A} → Swept z d d' b n f → n ≤ m → m ≤ n → Swept z d d' b m f
-swept_all {n = n} {m = m} s l g = let e : n ≡ m = omega arith in rw e at s
 
 -- the entry that comes next is still as it was
 pub swept_next : {A : Type 0} {z : A} {d d' : List A} {b n : ℕ} {f : ℕ → A} → Swept z d d' b n f → get_or d' (b + n) z ≡ get_or d (b + n) z

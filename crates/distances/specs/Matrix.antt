@@ -1,5 +1,5 @@
 -- The matrix in one list, and what the public functions ask and promise. An entry bounds t(j) − t(i) from above.
-use Rattle.std.specs.Prelude.{ℕ, ◌+◌, ◌*◌, ◌≤◌, ◌<◌, ◌≡◌, Bool, true, false, ◌&&◌, List, length, get_or, ℤ, pos, neg_ℤ, ◌+ℤ◌, ◌≤ℤ◌}
+use Rattle.std.specs.Prelude.{ℕ, ◌+◌, ◌*◌, ◌≤◌, ◌<◌, ◌≡◌, Bool, true, false, ◌&&◌, List, length, get_or, replicate, ℤ, pos, neg_ℤ, ◌+ℤ◌, ◌≤ℤ◌}
 use Rattle.std.specs.Int.Signed.{le_z}
 use Rattle.meaning.specs.Plan.{Within, most_events, most_horizon, most_end}
 use Rattle.meaning.specs.Distances.{Distances, Closed, Below, added, horizon_only}
@@ -37,15 +37,13 @@ pub record Beside (n : ℕ) (d d' : List ℤ) : Type 0 where
   pub beside : (i j : ℕ) → i < n → n ≤ j → j < stride → at d' i j ≡ at d i j
   pub rest : (k : ℕ) → n * stride ≤ k → get_or d' k (pos 0) ≡ get_or d k (pos 0)
 
--- ---- one entry
-pub record Place (i j : ℕ) (d : List ℤ) : Type 0 where
-  pub size : length d ≡ entry_count
-  pub row : i < stride
-  pub column : j < stride
-
 -- ---- the start
-pub record Starting (n h : ℕ) (d : List ℤ) : Type 0 where
-  pub size : length d ≡ entry_count
+
+-- the entries before anything is known
+abbrev pub blank : List ℤ
+blank = replicate entry_count (pos 0)
+
+pub record Starting (n h : ℕ) : Type 0 where
   pub events : n ≤ stride
   pub near : h ≤ most_horizon
 

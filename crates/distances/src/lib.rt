@@ -1,27 +1,26 @@
-// Closed distances in code: STRIDE rows of STRIDE signed entries in one slice, of which the first n rows and columns are in use.
+// Closed distances in code: STRIDE rows of STRIDE signed entries, of which the first `events` rows and columns are in use.
 #![tactic(auto)]
 
-ghost use Rattle.std.specs.Prelude.{◌≡◌, ◌*◌, ◌≤◌, ◌<◌, length, get_or, pos, ◌+ℤ◌};
+ghost use Rattle.std.specs.Prelude.{◌≡◌, ◌*◌, ◌≤◌, ◌<◌, pos, ◌+ℤ◌};
 ghost use Rattle.meaning.specs.Distances.{added, horizon_only, outermost};
 ghost use Rattle.meaning.specs.Plan.{most_horizon};
-ghost use Rattle.distances.specs.Matrix.{stride, at, meeting, Place, Starting, Started, Beside, Adding, Changed, Added, Narrowing, Narrowed, Timing};
+ghost use Rattle.distances.specs.Matrix.{stride, at, blank, meeting, Starting, Started, Beside, Adding, Changed, Added, Narrowing, Narrowed, Timing};
 ghost use Rattle.distances.specs.Sweep.{Swept};
-ghost use Rattle.distances.specs.Rows.{Lowering, Copying, Inserting, lowered};
+ghost use Rattle.distances.specs.Rows.{Lowering, Inserting, lowered};
 
 use scope::Side;
+use widths::{Number, Width};
 
 const STRIDE: usize = scope::MOST_EVENTS;
 
-// The entries of a matrix.
-pub const ENTRIES: usize = STRIDE * STRIDE;
+const ENTRIES: usize = STRIDE * STRIDE;
 
-// The entry in row i and column j.
-pub fn distance(d: &[i32], i: usize, j: usize) -> i32
-    requires { Place i j d.now }
-    ensures { result ≡ at d.now i j }
-{
-    let place = i * STRIDE + j;
-    d[place]
+// Entry i * STRIDE + j, in row i and column j, bounds t(j) − t(i) from above.
+// Loops write entries by index: after `iter_mut` a proof knows their number alone.
+#[derive(Drop)]
+pub struct Matrix {
+    pub events: usize,
+    pub entries: [i32; ENTRIES],
 }
 
 // What row i and column j hold where only the horizon h is known.
@@ -30,159 +29,158 @@ fn start_value(i: usize, j: usize, h: u32) -> i32
     requires { h ≤ most_horizon }
     ensures { result ≡ horizon_only h i j }
 {
-    if j == 0 {
+    if j == 0 || i == j {
         return 0;
     }
-    if i == j {
-        return 0;
-    }
-    widths::to_i32(widths::from_u32(h))
+    i32::of(h.number())
 }
 
-// Row i where only the horizon h is known.
-fn start_row(d: &mut [i32], i: usize, n: usize, h: u32)
-    requires { Starting n h d.old × (i < n) }
-    ensures { Swept (pos 0) d.old d.new (i * stride) n (horizon_only h i) }
-{
-    for j in 0..n {
-        d[i * STRIDE + j] = start_value(i, j, h);
-    }
-}
-
-// The matrix of all timetables of n events within the horizon h.
-pub fn start(d: &mut [i32], n: usize, h: u32)
-    requires { Starting n h d.old }
-    ensures { Started n h d.new × Beside n d.old d.new }
-{
-    for i in 0..n {
-        start_row(d, i, n, h);
-    }
-}
-
-// The j-th number of s.
-fn item(s: &[i32], j: usize) -> i32
-    requires { j < length s.now }
-    ensures { result ≡ get_or s.now j (pos 0) }
-{
-    s[j]
-}
-
-// Row i is lowered: base + via[j] in column j, where that is less. Straight-line, so that it runs over many columns at once.
-fn lower_row(d: &mut [i32], i: usize, n: usize, via: &[i32], base: i32)
-    requires { Lowering d.old i n via.now base }
-    ensures { Swept (pos 0) d.old d.new (i * stride) n (lowered d.old i via.now base) }
-{
-    for j in 0..n {
-        let s = ticks::plus(base, item(via, j));
-        d[i * STRIDE + j] = ticks::smaller(distance(d, i, j), s);
-    }
-}
-
-// The first n entries of row i are copied.
-fn copy_row(d: &[i32], i: usize, n: usize, row: &mut [i32])
-    requires { Copying d.now i n row.old }
-    ensures { Swept (pos 0) row.old row.new 0 n (at d.now i) }
-{
-    for j in 0..n {
-        row[j] = distance(d, i, j);
-    }
-}
-
-// Row i with the bound from a to b of weight w; via is row b. A row that needs no change is passed over.
-fn insert_row(d: &mut [i32], i: usize, n: usize, a: usize, b: usize, w: i32, via: &[i32])
-    requires { Inserting d.old i n a b w via.now }
-    ensures { Swept (pos 0) d.old d.new (i * stride) n
-        (lowered d.old i via.now (at d.old i a +ℤ w)) }
-{
-    let s = ticks::plus(distance(d, i, a), w);
-    if ticks::less(s, distance(d, i, b)) {
-        lower_row(d, i, n, via, s);
-    }
-}
-
-// The bound from a to b of weight w is added to every row.
-fn insert(d: &mut [i32], n: usize, a: usize, b: usize, w: i32)
-    requires { Adding n a b w d.old }
-    ensures { Changed n n d.old d.new (added (at d.old) a b w) }
-{
-    let mut via = [0; STRIDE];
-    copy_row(d, b, n, &mut via);
-    for i in 0..n {
-        insert_row(d, i, n, a, b, w, &via);
-    }
-}
-
-// The same; a bound that the matrix keeps already changes no row, and most do not once a plan is narrow.
-fn tighten(d: &mut [i32], n: usize, a: usize, b: usize, w: i32)
-    requires { Adding n a b w d.old }
-    ensures { Changed n n d.old d.new (added (at d.old) a b w) }
-{
-    if ticks::less(w, distance(d, a, b)) {
-        insert(d, n, a, b, w);
-    }
-}
-
-// One more bound, t(b) − t(a) ≤ w; false, and nothing is written, where it leaves no timetable.
-pub fn add(d: &mut [i32], n: usize, a: usize, b: usize, w: i32) -> bool
-    requires { Adding n a b w d.old }
-    ensures { Added n a b w d.old d.new result }
-{
-    let s = ticks::plus(distance(d, b, a), w);
-    if ticks::at_most(0, s) {
-        tighten(d, n, a, b, w);
-        return true;
-    }
-    false
-}
-
-// Whether the run lo to hi is not empty and meets −D[b][a] to D[a][b].
-fn meets(d: &[i32], n: usize, a: usize, b: usize, lo: i32, hi: i32) -> bool
-    requires { Narrowing n a b lo hi d.now }
-    ensures { result ≡ meeting (at d.now) a b lo hi }
-{
-    let down = ticks::minus(distance(d, b, a));
-    if ticks::at_most(lo, hi) {
-        if ticks::at_most(lo, distance(d, a, b)) {
-            ticks::at_most(down, hi)
-        } else {
-            false
+impl Matrix {
+    // Nothing is known yet.
+    pub fn none() -> Matrix
+        ensures { (result.events ≡ 0) × (result.entries ≡ blank) }
+    {
+        Matrix {
+            events: 0,
+            entries: [0; ENTRIES],
         }
-    } else {
-        false
     }
-}
 
-// The distance from a to b is held to lo to hi; false, and nothing is written, where no timetable has it there.
-pub fn narrow(d: &mut [i32], n: usize, a: usize, b: usize, lo: i32, hi: i32) -> bool
-    requires { Narrowing n a b lo hi d.old }
-    ensures { Narrowed n a b lo hi d.old d.new result }
-{
-    if meets(d, n, a, b, lo, hi) {
-        let down = ticks::minus(lo);
-        tighten(d, n, a, b, hi);
-        tighten(d, n, b, a, down);
-        return true;
+    // All timetables of n events within the horizon h.
+    pub fn start(&mut self, n: usize, h: u32)
+        requires { Starting n h }
+        ensures sized { self.new.events ≡ n }
+        ensures started { Started n h self.new.entries × Beside n self.old.entries self.new.entries }
+    {
+        self.events = n;
+        for i in 0..n {
+            self.start_row(i, h);
+        }
     }
-    false
-}
 
-// The greatest time of event e is the bound on its distance from the origin, the least that on its distance to the origin, negated.
-fn time_of(d: &[i32], side: Side, e: usize) -> i64
-    requires { Place e 0 d.now }
-    ensures { result ≡ outermost side (at d.now) e }
-{
-    match side {
-        Side::Latest => widths::widen(distance(d, 0, e)),
-        Side::Earliest => ticks::minus_wide(distance(d, e, 0)),
+    // Row i where only the horizon h is known.
+    fn start_row(&mut self, i: usize, h: u32)
+        requires { Starting self.old.events h × (i < self.old.events) }
+        ensures same_events { self.new.events ≡ self.old.events }
+        ensures written { Swept (pos 0) self.old.entries self.new.entries (i * stride) self.old.events (horizon_only h i) }
+    {
+        for j in 0..self.events {
+            self.entries[i * STRIDE + j] = start_value(i, j, h);
+        }
     }
-}
 
-// The greatest time of each event, or the least.
-pub fn outermost(d: &[i32], n: usize, side: Side, times: &mut [i64])
-    requires { Timing n d.now times.old }
-    ensures { Swept (pos 0) times.old times.new 0 n (outermost side (at d.now)) }
-{
-    for e in 0..n {
-        times[e] = time_of(d, side, e);
+    // The entry in row i and column j.
+    pub fn distance(&self, i: usize, j: usize) -> i32
+        requires { (i < stride) × (j < stride) }
+        ensures { result ≡ at self.now.entries i j }
+    {
+        let place = i * STRIDE + j;
+        self.entries[place]
+    }
+
+    // Row i is lowered: base + via[j] in column j, where that is less. Straight-line, so that it runs over many columns at once.
+    fn lower_row(&mut self, i: usize, via: &[i32], base: i32)
+        requires { Lowering i self.old.events via.now base }
+        ensures same_events { self.new.events ≡ self.old.events }
+        ensures written { Swept (pos 0) self.old.entries self.new.entries (i * stride) self.old.events
+            (lowered self.old.entries i via.now base) }
+    {
+        for j in 0..self.events {
+            self.entries[i * STRIDE + j] = self.distance(i, j).min(base + via[j]);
+        }
+    }
+
+    // Row i with the bound from a to b of weight w; via is row b. A row that needs no change is passed over.
+    fn insert_row(&mut self, i: usize, a: usize, b: usize, w: i32, via: &[i32])
+        requires { Inserting self.old.entries i self.old.events a b w via.now }
+        ensures same_events { self.new.events ≡ self.old.events }
+        ensures written { Swept (pos 0) self.old.entries self.new.entries (i * stride) self.old.events
+            (lowered self.old.entries i via.now (at self.old.entries i a +ℤ w)) }
+    {
+        let s = self.distance(i, a) + w;
+        if s < self.distance(i, b) {
+            self.lower_row(i, via, s);
+        }
+    }
+
+    // The bound from a to b of weight w is added to every row.
+    fn insert(&mut self, a: usize, b: usize, w: i32)
+        requires { Adding self.old.events a b w self.old.entries }
+        ensures same_events { self.new.events ≡ self.old.events }
+        ensures changed { Changed self.old.events self.old.events self.old.entries self.new.entries (added (at self.old.entries) a b w) }
+    {
+        let n = self.events;
+        let mut via = [0; STRIDE];
+        via[..n].copy_from_slice(&self.entries[b * STRIDE..b * STRIDE + n]);
+        for i in 0..n {
+            self.insert_row(i, a, b, w, &via);
+        }
+    }
+
+    // The same; a bound that the matrix keeps already changes no row, and most do not once a plan is narrow.
+    fn tighten(&mut self, a: usize, b: usize, w: i32)
+        requires { Adding self.old.events a b w self.old.entries }
+        ensures same_events { self.new.events ≡ self.old.events }
+        ensures changed { Changed self.old.events self.old.events self.old.entries self.new.entries (added (at self.old.entries) a b w) }
+    {
+        if w < self.distance(a, b) {
+            self.insert(a, b, w);
+        }
+    }
+
+    // One more bound, t(b) − t(a) ≤ w; false, and nothing is written, where it leaves no timetable.
+    pub fn add(&mut self, a: usize, b: usize, w: i32) -> bool
+        requires { Adding self.old.events a b w self.old.entries }
+        ensures same_events { self.new.events ≡ self.old.events }
+        ensures answered { Added self.old.events a b w self.old.entries self.new.entries result }
+    {
+        let left = 0 <= self.distance(b, a) + w;
+        if left {
+            self.tighten(a, b, w);
+        }
+        left
+    }
+
+    // Whether the run lo to hi is not empty and meets −D[b][a] to D[a][b].
+    fn meets(&self, a: usize, b: usize, lo: i32, hi: i32) -> bool
+        requires { Narrowing self.now.events a b lo hi self.now.entries }
+        ensures { result ≡ meeting (at self.now.entries) a b lo hi }
+    {
+        lo <= hi && lo <= self.distance(a, b) && -self.distance(b, a) <= hi
+    }
+
+    // The distance from a to b is held to lo to hi; false, and nothing is written, where no timetable has it there.
+    pub fn narrow(&mut self, a: usize, b: usize, lo: i32, hi: i32) -> bool
+        requires { Narrowing self.old.events a b lo hi self.old.entries }
+        ensures same_events { self.new.events ≡ self.old.events }
+        ensures answered { Narrowed self.old.events a b lo hi self.old.entries self.new.entries result }
+    {
+        let met = self.meets(a, b, lo, hi);
+        if met {
+            self.tighten(a, b, hi);
+            self.tighten(b, a, -lo);
+        }
+        met
+    }
+
+    // The greatest time of event e is the bound on its distance from the origin, the least that on its distance to the origin, negated.
+    fn time_of(&self, side: Side, e: usize) -> i64
+        requires { e < stride }
+        ensures { result ≡ outermost side (at self.now.entries) e }
+    {
+        match side {
+            Side::Latest => i64::from(self.distance(0, e)),
+            Side::Earliest => -i64::from(self.distance(e, 0)),
+        }
+    }
+
+    // The greatest time of each event, or the least.
+    pub fn outermost(&self, side: Side, times: &mut [i64])
+        requires { Timing self.now.events self.now.entries times.old }
+        ensures { Swept (pos 0) times.old times.new 0 self.now.events (outermost side (at self.now.entries)) }
+    {
+        for e in 0..self.events {
+            times[e] = self.time_of(side, e);
+        }
     }
 }

@@ -5,6 +5,8 @@ ghost use Rattle.std.specs.Prelude.{◌≡◌, ◌<◌};
 ghost use Rattle.std.specs.Int.Count.{ones, count_trailing_zeros};
 ghost use Rattle.eventset.specs.Sets.{word_width, set_width, bits_of, member, put_in};
 
+use widths::Number;
+
 // The bits of a word.
 const WORD: usize = 64;
 
@@ -33,53 +35,55 @@ fn word_has(w: u64, e: usize) -> bool
 
 // ---- the set
 
-pub fn empty() -> EventSet
-    ensures { bits_of result ≡ 0 }
-{
-    EventSet { low: 0, high: 0 }
-}
-
-// The set with e, whether it had it or not.
-pub fn put(s: EventSet, e: usize) -> EventSet
-    requires { e < set_width }
-    ensures { bits_of result ≡ put_in (bits_of s) e }
-{
-    if e < WORD {
-        return EventSet {
-            low: word_put(s.low, e),
-            high: s.high,
-        };
+impl EventSet {
+    pub fn empty() -> EventSet
+        ensures { bits_of result ≡ 0 }
+    {
+        EventSet { low: 0, high: 0 }
     }
-    EventSet {
-        low: s.low,
-        high: word_put(s.high, e - WORD),
-    }
-}
 
-pub fn has(s: EventSet, e: usize) -> bool
-    requires { e < set_width }
-    ensures { result ≡ member (bits_of s) e }
-{
-    if e < WORD {
-        return word_has(s.low, e);
+    // The set with e, whether it had it or not.
+    pub fn put(self, e: usize) -> EventSet
+        requires { e < set_width }
+        ensures { bits_of result ≡ put_in (bits_of self) e }
+    {
+        if e < WORD {
+            return EventSet {
+                low: word_put(self.low, e),
+                high: self.high,
+            };
+        }
+        EventSet {
+            low: self.low,
+            high: word_put(self.high, e - WORD),
+        }
     }
-    word_has(s.high, e - WORD)
-}
 
-// How many are in it.
-pub fn count(s: EventSet) -> usize
-    ensures { result ≡ ones (bits_of s) }
-{
-    widths::from_u32(u64::count_ones(s.low)) + widths::from_u32(u64::count_ones(s.high))
-}
-
-// The least that is in it; the width for the empty set.
-pub fn lowest(s: EventSet) -> usize
-    ensures { result ≡ count_trailing_zeros set_width (bits_of s) }
-{
-    let low = widths::from_u32(u64::trailing_zeros(s.low));
-    if low < WORD {
-        return low;
+    pub fn has(self, e: usize) -> bool
+        requires { e < set_width }
+        ensures { result ≡ member (bits_of self) e }
+    {
+        if e < WORD {
+            return word_has(self.low, e);
+        }
+        word_has(self.high, e - WORD)
     }
-    WORD + widths::from_u32(u64::trailing_zeros(s.high))
+
+    // How many are in it.
+    pub fn count(self) -> usize
+        ensures { result ≡ ones (bits_of self) }
+    {
+        self.low.count_ones().number() + self.high.count_ones().number()
+    }
+
+    // The least that is in it; the width for the empty set.
+    pub fn lowest(self) -> usize
+        ensures { result ≡ count_trailing_zeros set_width (bits_of self) }
+    {
+        let low = self.low.trailing_zeros().number();
+        if low < WORD {
+            return low;
+        }
+        WORD + self.high.trailing_zeros().number()
+    }
 }

@@ -2,12 +2,11 @@
 use mathlib.Core.Path.{◌≡◌, refl}
 use mathlib.Core.Bool.{Bool, true, false, not}
 use mathlib.Core.List.{List, [], ◌∷◌}
-use Prim.Native.Nat.{ℕ, ◌+◌, ◌-◌, ◌≤◌, ◌<◌}
+use Prim.Native.Nat.{ℕ, ◌≤◌, ◌<◌}
 use native.Mathlib.Omega.{arith}
 use borrow.Author.Tests.{lt-ltb, le-ltb}
 use lib.Dec.{ltb}
 use lib.ListN.{length}
-use lib.Seq.{slice, length-slice}
 use Rattle.meaning.specs.Plan.{least_level}
 use Rattle.meaning.specs.Run.{run_first}
 use Rattle.meaning.specs.Reading.{all_zero}
@@ -18,16 +17,9 @@ pub allows_wish : (ls : List ℕ) → 1 ≤ length ls → allows_any ls ≡ not 
 allows_wish [] h = absurd (omega arith)
 allows_wish (l ∷ ls) h = refl
 
-module _ (s : List ℕ) (at end : ℕ) (h : at < end) (l : end ≤ length s) where
-  abbrev ls : List ℕ
-  ls = slice at end s
-
-  many : length ls ≡ end - at
-  many = length-slice at end s l
-
-  pub found_allows : (r : ℕ) → r ≡ at + run_first least_level ls → ltb r end ≡ allows_any ls
-  found_allows r e = rw (allows_wish ls (omega (arith, many))) (go (all_zero ls) refl)
-    where
-      go : (b : Bool) → all_zero ls ≡ b → ltb r end ≡ not b
-      go true z = le-ltb r end (omega (arith, many, zeros_first ls z))
-      go false z = lt-ltb r end (omega (arith, many, other_first ls z))
+pub found_allows : (ls : List ℕ) → 0 < length ls → ltb (run_first least_level ls) (length ls) ≡ allows_any ls
+found_allows ls h = rw (allows_wish ls (omega arith)) (go (all_zero ls) refl)
+  where
+    go : (b : Bool) → all_zero ls ≡ b → ltb (run_first least_level ls) (length ls) ≡ not b
+    go true z = le-ltb (run_first least_level ls) (length ls) (omega (arith, zeros_first ls z))
+    go false z = lt-ltb (run_first least_level ls) (length ls) (other_first ls z)

@@ -8,6 +8,8 @@ use borrow.Author.Tests.{ltb-true, leb-true}
 use lib.Dec.{leb, ltb}
 use lib.IntN.{ℤ, pos}
 use lib.Signed.{le_z}
+use Rattle.scope.specs.declared.Fault.{Fault}
+use Rattle.scope.specs.Faults.{number}
 use Rattle.meaning.specs.Plan.{most_events, most_horizon, most_records, most_levels, most_levels_together}
 use Rattle.meaning.specs.Peak.{peaked}
 use Rattle.meaning.specs.Numbers.{out_of_range_number, same_event_number, not_peaked_number, nothing_allowed_number}
@@ -17,14 +19,15 @@ use Rattle.faults.specs.declared.SoFar.{SoFar}
 use Rattle.faults.specs.declared.Span.{Span}
 use Rattle.faults.specs.Faults.{no_fault, unless_met, first_fault, head_fault, are_levels, allows_any, has_room, shape_fault, record_fault, Fitting}
 use Rattle.faults.proofs.Tests.{all_three, event_sign}
+use Rattle.scope.proofs.Numbers.{not_zero}
 
 pub only : (k : ℕ) → first_fault (k ∷ []) ≡ k
 only zero = refl
 only (suc k) = refl
 
-pub stops : (k : ℕ) (ks : List ℕ) → (k ≡ no_fault → ⊥) → k ≡ first_fault (k ∷ ks)
-stops zero ks n = absurd (n refl)
-stops (suc k) ks n = refl
+-- a fault that was found stops the tests
+pub stops : (f : Fault) (ks : List ℕ) → first_fault (number f ∷ ks) ≡ number f
+stops f ks = rw (not_zero f).1
 
 -- ---- no fault
 

@@ -6,9 +6,9 @@ use Prim.Native.Nat.{ℕ, ◌+◌, ◌≤◌, ◌<◌}
 use native.Mathlib.Omega.{arith}
 use borrow.Author.Tests.{ltb-true, ltb-false, le-leb, lt-leb}
 use lib.Dec.{ltb}
-use lib.ListN.{length, get_or}
-use lib.Seq.{slice, slice_empty}
-use Rattle.meaning.proofs.Slices.{slice_step}
+use lib.ListN.{length, get_or, drop, drop_of_length-le}
+use lib.Seq.{drop-cons}
+use Rattle.std.proofs.Common.{add-one}
 use Rattle.meaning.specs.Peak.{peaked, peaked_from}
 
 up : (f : Bool) (x z : ℕ) (zs : List ℕ) → f && ltb x z ≡ true → peaked_from f x (z ∷ zs) ≡ false
@@ -19,18 +19,20 @@ on : (f : Bool) (x z : ℕ) (zs : List ℕ) → f && ltb x z ≡ false → peake
 on true x z zs e = rw (le-leb z x (ltb-false x z e))
 on false x z zs e = refl
 
-module _ (f : Bool) (x : ℕ) (s : List ℕ) (at i end : ℕ) (h : i < end) (l : end ≤ length s)
-    (e : peaked_from f x (slice i end s) ≡ peaked (slice at end s)) where
-  pub peak_up : f && ltb x (get_or s i 0) ≡ true → false ≡ peaked (slice at end s)
-  peak_up u = sym (up f x (get_or s i 0) (slice (i + 1) end s) u) ∙ (rw (slice_step s i end h l) at e)
-
-  pub peak_on : f && ltb x (get_or s i 0) ≡ false → peaked_from (f || ltb (get_or s i 0) x) (get_or s i 0) (slice (i + 1) end s) ≡ peaked (slice at end s)
-  peak_on u = sym (on f x (get_or s i 0) (slice (i + 1) end s) u) ∙ (rw (slice_step s i end h l) at e)
-
 pub peak_start : (ls : List ℕ) → peaked_from false 0 ls ≡ peaked ls
 unfolding peaked
 peak_start ls = refl
 
-pub peak_end : (f : Bool) (x : ℕ) (s : List ℕ) (at i end : ℕ) → i ≡ end
-    → peaked_from f x (slice i end s) ≡ peaked (slice at end s) → true ≡ peaked (slice at end s)
-peak_end f x s at i end q e = rw (q, slice_empty end s) at e
+-- from the i-th level on, the pass gives what the whole gives
+module _ (f : Bool) (x : ℕ) (ls : List ℕ) (i : ℕ) (e : peaked_from f x (drop i ls) ≡ peaked ls) where
+  step : i < length ls → drop i ls ≡ get_or ls i 0 ∷ drop (i + 1) ls
+  step h = rw add-one (drop-cons ls i 0 h)
+
+  pub peak_up : i < length ls → f && ltb x (get_or ls i 0) ≡ true → false ≡ peaked ls
+  peak_up h u = sym (up f x (get_or ls i 0) (drop (i + 1) ls) u) ∙ (rw (step h) at e)
+
+  pub peak_on : i < length ls → f && ltb x (get_or ls i 0) ≡ false → peaked_from (f || ltb (get_or ls i 0) x) (get_or ls i 0) (drop (i + 1) ls) ≡ peaked ls
+  peak_on h u = sym (on f x (get_or ls i 0) (drop (i + 1) ls) u) ∙ (rw (step h) at e)
+
+  pub peak_end : length ls ≤ i → true ≡ peaked ls
+  peak_end h = rw (drop_of_length-le ls {i = i} h) at e

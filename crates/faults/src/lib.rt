@@ -1,20 +1,18 @@
 // The faults of a plan's records and of its first line: the tests of section 3 and of T-04, in their order, on numbers and on levels in memory.
 #![tactic(auto)]
 
-ghost use Rattle.std.specs.Prelude.{◌≡◌, ◌&&◌, ◌||◌, [], ◌∷◌, ◌≤◌, ◌<◌, length, ltb};
-ghost use Rattle.std.proofs.Math.Seq.{slice};
+ghost use Rattle.std.specs.Prelude.{◌≡◌, [], ◌≤◌, ◌<◌, length};
+ghost use Rattle.scope.specs.Faults.{numbered};
 ghost use Rattle.meaning.specs.Plan.{most_events, most_levels_together};
 ghost use Rattle.meaning.specs.Peak.{peaked};
 ghost use Rattle.meaning.specs.Reading.{between, is_event, is_end, in_range};
-ghost use Rattle.faults.specs.Faults.{first_fault, are_levels, allows_any, has_room, head_fault, shape_fault, record_fault};
+ghost use Rattle.faults.specs.Faults.{are_levels, allows_any, has_room, head_fault, shape_fault, record_fault};
 
 use scope::{
-    LEAST_LEVEL, MOST_END, MOST_HORIZON, MOST_LEVELS, MOST_LEVELS_TOGETHER, MOST_RECORDS,
-    NOT_PEAKED, NOTHING_ALLOWED, OUT_OF_RANGE, SAME_EVENT,
+    Fault, LEAST_LEVEL, MOST_END, MOST_HORIZON, MOST_LEVELS, MOST_LEVELS_TOGETHER, MOST_RECORDS,
+    TOP_LEVEL,
 };
-
-// What a test gives that finds no fault.
-pub const NO_FAULT: u8 = 0;
+use widths::Width;
 
 // A field is a signed number, so this limit is met as such.
 const MOST_EVENTS: i32 = scope::MOST_EVENTS as i32;
@@ -42,7 +40,7 @@ pub struct SoFar {
 pub fn is_between(lo: i32, hi: i32, v: i32) -> bool
     ensures { result ≡ between lo hi v }
 {
-    if lo <= v { v <= hi } else { false }
+    lo <= v && v <= hi
 }
 
 // v is one of the events 0 to n - 1.
@@ -50,7 +48,7 @@ fn is_event(n: usize, v: i32) -> bool
     requires { n ≤ most_events }
     ensures { result ≡ is_event n v }
 {
-    if 0 <= v { v < widths::to_i32(n) } else { false }
+    0 <= v && v < i32::of(n)
 }
 
 // v may be an end of a span.
@@ -65,75 +63,40 @@ fn in_range(n: usize, span: Span) -> bool
     requires { n ≤ most_events }
     ensures { result ≡ in_range n span.a span.b span.lo span.hi }
 {
-    if !is_event(n, span.a) {
-        return false;
-    }
-    if !is_event(n, span.b) {
-        return false;
-    }
-    if !is_end(span.lo) {
-        return false;
-    }
-    is_end(span.hi)
+    is_event(n, span.a) && is_event(n, span.b) && is_end(span.lo) && is_end(span.hi)
 }
 
 // ---- the levels of a wish
 
-// The levels from at up to end are allowed ones.
-fn are_levels(levels: &[u8], at: usize, end: usize) -> bool
-    requires { (at ≤ end) × (end ≤ length levels.now) }
-    ensures { result ≡ are_levels (slice at end levels.now) }
+// They are allowed ones.
+fn are_levels(levels: &[u8]) -> bool
+    ensures { result ≡ are_levels levels.now }
 {
-    let mut k = at;
-    while k < end {
-        if scope::TOP_LEVEL < levels[k] {
-            return false;
-        }
-        k += 1;
-    }
-    true
+    levels.iter().all(|level| *level <= TOP_LEVEL)
 }
 
-// A level z after x that is up again after a fall.
-fn up_again(fallen: bool, x: u8, z: u8) -> bool
-    ensures { result ≡ (fallen && ltb x z) }
-{
-    if fallen { x < z } else { false }
-}
-
-// The levels have gone down somewhere up to z.
-fn has_fallen(fallen: bool, x: u8, z: u8) -> bool
-    ensures { result ≡ (fallen || ltb z x) }
-{
-    if fallen { true } else { z < x }
-}
-
-// The levels from at up to end are single-peaked.
-fn is_peaked(levels: &[u8], at: usize, end: usize) -> bool
-    requires { (at ≤ end) × (end ≤ length levels.now) }
-    ensures { result ≡ peaked (slice at end levels.now) }
+// They are single-peaked: none is up again after a fall.
+fn is_peaked(levels: &[u8]) -> bool
+    ensures { result ≡ peaked levels.now }
 {
     let mut fallen = false;
-    let mut x: u8 = 0;
-    let mut i = at;
-    while i < end {
-        let z = levels[i];
-        if up_again(fallen, x, z) {
+    let mut last: u8 = 0;
+    for level in levels {
+        if fallen && last < *level {
             return false;
         }
-        fallen = has_fallen(fallen, x, z);
-        x = z;
-        i += 1;
+        fallen = fallen || *level < last;
+        last = *level;
     }
     true
 }
 
-// Some distance of the wish whose levels stand from at up to end is allowed.
-fn allows_any(levels: &[u8], at: usize, end: usize) -> bool
-    requires { (at < end) × (end ≤ length levels.now) }
-    ensures { result ≡ allows_any (slice at end levels.now) }
+// Some distance of the wish is allowed.
+fn allows_any(levels: &[u8]) -> bool
+    requires { 0 < length levels.now }
+    ensures { result ≡ allows_any levels.now }
 {
-    cut::run_first(levels, at, end, LEAST_LEVEL) < end
+    cut::run_first(levels, LEAST_LEVEL) < levels.len()
 }
 
 // ---- the faults
@@ -143,78 +106,59 @@ pub fn has_room(plan: SoFar, m: usize) -> bool
     requires { plan.levels ≤ most_levels_together }
     ensures { result ≡ has_room plan m }
 {
-    if MOST_RECORDS <= plan.records {
-        return false;
-    }
-    if MOST_LEVELS < m {
-        return false;
-    }
-    plan.levels + m <= MOST_LEVELS_TOGETHER
+    plan.records < MOST_RECORDS && m <= MOST_LEVELS && plan.levels + m <= MOST_LEVELS_TOGETHER
 }
 
 // The fault of n events and the horizon h.
-pub fn head_fault(n: i32, h: i32) -> u8
-    ensures { result ≡ head_fault n h }
+pub fn head_fault(n: i32, h: i32) -> Result<(), Fault>
+    ensures { numbered result ≡ head_fault n h }
 {
-    if !is_between(1, MOST_EVENTS, n) {
-        return OUT_OF_RANGE;
-    }
-    if is_between(0, MOST_HORIZON, h) {
-        NO_FAULT
+    if is_between(1, MOST_EVENTS, n) && is_between(0, MOST_HORIZON, h) {
+        Ok(())
     } else {
-        OUT_OF_RANGE
+        Err(Fault::OutOfRange)
     }
 }
 
 // The first fault of a rule.
-pub fn rule_fault(n: usize, span: Span) -> u8
+pub fn rule_fault(n: usize, span: Span) -> Result<(), Fault>
     requires { n ≤ most_events }
-    ensures { result ≡ record_fault n span [] }
+    ensures { numbered result ≡ record_fault n span [] }
 {
     if !in_range(n, span) {
-        return OUT_OF_RANGE;
+        return Err(Fault::OutOfRange);
     }
-    if !ticks::at_most(span.lo, span.hi) {
-        return OUT_OF_RANGE;
+    if span.hi < span.lo {
+        return Err(Fault::OutOfRange);
     }
-    if ticks::equal(span.a, span.b) {
-        SAME_EVENT
-    } else {
-        NO_FAULT
+    if span.a == span.b {
+        return Err(Fault::SameEvent);
     }
+    Ok(())
 }
 
-// The first fault of the levels from at up to end by the shape of their row: it is single-peaked, and not all 0.
-fn shape_fault(levels: &[u8], at: usize, end: usize) -> u8
-    requires { (at < end) × (end ≤ length levels.now) }
-    ensures { result ≡ shape_fault (slice at end levels.now) }
+// The first fault of a wish's levels by the shape of their row: it is single-peaked, and not all 0.
+fn shape_fault(levels: &[u8]) -> Result<(), Fault>
+    requires { 0 < length levels.now }
+    ensures { numbered result ≡ shape_fault levels.now }
 {
-    if !is_peaked(levels, at, end) {
-        return NOT_PEAKED;
+    if !is_peaked(levels) {
+        return Err(Fault::NotPeaked);
     }
-    if allows_any(levels, at, end) {
-        NO_FAULT
-    } else {
-        NOTHING_ALLOWED
+    if !allows_any(levels) {
+        return Err(Fault::NothingAllowed);
     }
+    Ok(())
 }
 
-// The first of two faults.
-fn first_of(one: u8, other: u8) -> u8
-    ensures { result ≡ first_fault (one ∷ other ∷ []) }
+// The first fault of a wish with these levels.
+pub fn wish_fault(n: usize, span: Span, levels: &[u8]) -> Result<(), Fault>
+    requires { (n ≤ most_events) × (0 < length levels.now) }
+    ensures { numbered result ≡ record_fault n span levels.now }
 {
-    if one == NO_FAULT { other } else { one }
-}
-
-// The first fault of a wish, whose levels stand from at up to end.
-pub fn wish_fault(n: usize, span: Span, levels: &[u8], at: usize, end: usize) -> u8
-    requires { (n ≤ most_events) × (at < end) × (end ≤ length levels.now) }
-    ensures { result ≡ record_fault n span (slice at end levels.now) }
-{
-    if !are_levels(levels, at, end) {
-        return OUT_OF_RANGE;
+    if !are_levels(levels) {
+        return Err(Fault::OutOfRange);
     }
-    let numbers = rule_fault(n, span);
-    let shape = shape_fault(levels, at, end);
-    first_of(numbers, shape)
+    rule_fault(n, span)?;
+    shape_fault(levels)
 }

@@ -4,13 +4,13 @@ use mathlib.Core.Path.{◌≡◌, refl}
 use mathlib.Core.List.{List}
 use Prim.Native.Nat.{ℕ}
 use native.Mathlib.Omega.{arith}
-use Rattle.fields.specs.declared.Field.{Field}
-use Rattle.fields.specs.declared.Field.TheVariants.{Number, Wrong}
+use lib.IntN.{ℤ}
+use Rattle.std.specs.Prelude.{Option, Some, None}
 use Rattle.fields.specs.Fields.{FieldRead}
 
 -- any two fields behind the same tab are equal
-pub one_field : (text : List ℕ) (p end : ℕ) (q r : Field) → FieldRead text p end q → FieldRead text p end r → q ≡ r
-one_field text p end (Number v i) (Number w j) a b = cc
-one_field text p end (Number v i) Wrong a b = let z : ◌≡◌ {A = ℕ} 0 1 = cc in absurd (omega arith)
-one_field text p end Wrong (Number w j) a b = let z : ◌≡◌ {A = ℕ} 0 1 = cc in absurd (omega arith)
-one_field text p end Wrong Wrong a b = refl
+pub one_field : (line : List ℕ) (p : ℕ) (q r : Option (ℤ × ℕ)) → FieldRead line p q → FieldRead line p r → q ≡ r
+one_field line p (Some (v, i)) (Some (w, j)) a b = cc
+one_field line p (Some (v, i)) None a b = let z : ◌≡◌ {A = ℕ} 0 1 = cc in absurd (omega arith)
+one_field line p None (Some (w, j)) a b = let z : ◌≡◌ {A = ℕ} 0 1 = cc in absurd (omega arith)
+one_field line p None None a b = refl

@@ -1,19 +1,20 @@
--- The fields of a line by the places that `find` gives.
+-- The fields of a line by the places that `field_after` gives.
 use Prim.Native.Nat.{ℕ, ◌+◌, ◌≤◌, ◌<◌}
 use mathlib.Core.Path.{◌≡◌, ◌∙◌}
 use mathlib.Core.List.{List, ◌∷◌}
 use native.Mathlib.Omega.{arith}
-use lib.ListN.{length}
-use lib.Seq.{slice}
-use Rattle.text.specs.Bytes.{until, after}
-use Rattle.text.proofs.Cuts.{cut, cut_in, after_step_lem}
+use lib.ListN.{length, drop, length-drop}
+use lib.Seq.{drop-drop}
+use Rattle.text.specs.Bytes.{after}
+use Rattle.text.proofs.Cuts.{until_le, split_until, after_step_lem}
 use Rattle.meaning.specs.Reading.{tab_byte}
+use Rattle.fields.specs.Fields.{first_field, field_end}
 
--- where the walk stands at p, before a field that ends at k
-pub fields_step : (s : List ℕ) (p e k : ℕ) → p < e → e ≤ length s → k ≡ p + 1 + until tab_byte (slice (p + 1) e s)
-    → after tab_byte (slice p e s) ≡ slice (p + 1) k s ∷ after tab_byte (slice k e s)
-fields_step s p e k h l q = after_step_lem tab_byte s p e h l ∙ rw q (cut tab_byte s (p + 1) e (omega arith) l)
+-- where the walk stands at p, before a field
+pub fields_step : (line : List ℕ) (p : ℕ) → p < length line
+    → after tab_byte (drop p line) ≡ first_field (drop (p + 1) line) ∷ after tab_byte (drop (field_end line p) line)
+fields_step line p h = after_step_lem tab_byte line p h ∙ split_until tab_byte (drop (p + 1) line) ∙ rw (drop-drop)
 
 -- a field ends past where it begins, and inside the line
-pub field_in : (s : List ℕ) (p e k : ℕ) → p < e → e ≤ length s → k ≡ p + 1 + until tab_byte (slice (p + 1) e s) → (p + 1 ≤ k) × (k ≤ e)
-field_in s p e k h l q = (omega arith, omega (arith, cut_in tab_byte s (p + 1) e (omega arith) l))
+pub field_in : (line : List ℕ) (p : ℕ) → p < length line → (p < field_end line p) × (field_end line p ≤ length line)
+field_in line p h = (omega arith, omega (arith, until_le tab_byte (drop (p + 1) line), length-drop (p + 1) line))

@@ -1,22 +1,23 @@
 -- The fields of a line: a line as a struct, and the field behind a tab.
-use Rattle.std.specs.Prelude.{◌≡◌, List, [], ◌∷◌, ℕ, ◌+◌, ◌<◌, length, get_or, set, ℤ, pos}
+use Rattle.std.specs.Prelude.{◌≡◌, List, [], ◌∷◌, ℕ, ◌+◌, ◌<◌, length, get_or, set, take, drop, ℤ, pos, Option, Some, None}
 use Rattle.std.proofs.Math.Option.{none, some}
-use Rattle.std.proofs.Math.Seq.{slice}
 use Rattle.meaning.specs.Reading.{tab_byte, item, number_of}
 use Rattle.text.specs.Bytes.{until}
 use Rattle.text.specs.Words.{word_of}
 use Rattle.fields.specs.declared.Line.{Line}
-use Rattle.fields.specs.declared.Field.{Field}
-use Rattle.fields.specs.declared.Field.TheVariants.{Number, Wrong}
+
+-- the first field of a line, or of what is left of it
+abbrev pub first_field : List ℕ → List ℕ
+first_field line = take (until tab_byte line) line
 
 -- ---- a line as a struct
 
--- the line from `at` up to `end`, none of its numbers read
-abbrev pub begun : List ℕ → ℕ → ℕ → ℕ → Line
-begun text number at end = record {
+-- the line, none of its numbers read
+abbrev pub begun : List ℕ → ℕ → Line
+begun line number = record {
   number = number;
-  word = word_of (slice at (at + until tab_byte (slice at end text)) text);
-  first = at + until tab_byte (slice at end text);
+  word = word_of (first_field line);
+  first = until tab_byte line;
   count = 0;
   fields = pos 0 ∷ pos 0 ∷ pos 0 ∷ pos 0 ∷ [];
 }
@@ -40,10 +41,10 @@ pub record Numbered (vs : List ℤ) (l : Line) : Type 0 where
 -- ---- the field behind a tab
 
 -- the place where the field behind the tab at p ends
-abbrev pub field_end : List ℕ → ℕ → ℕ → ℕ
-field_end text p end = p + 1 + until tab_byte (slice (p + 1) end text)
+abbrev pub field_end : List ℕ → ℕ → ℕ
+field_end line p = p + 1 + until tab_byte (drop (p + 1) line)
 
 -- the field behind the tab at p
-abbrev pub FieldRead : List ℕ → ℕ → ℕ → Field → Type 0
-FieldRead text p end (Number v next) = (next ≡ field_end text p end) × (number_of (slice (p + 1) (field_end text p end) text) ≡ some v)
-FieldRead text p end Wrong = number_of (slice (p + 1) (field_end text p end) text) ≡ none
+abbrev pub FieldRead : List ℕ → ℕ → Option (ℤ × ℕ) → Type 0
+FieldRead line p (Some (v, next)) = (next ≡ field_end line p) × (number_of (first_field (drop (p + 1) line)) ≡ some v)
+FieldRead line p None = number_of (first_field (drop (p + 1) line)) ≡ none

@@ -3,9 +3,11 @@
 
 ghost use Rattle.std.specs.Prelude.{◌≡◌, ◌≤◌, ◌<◌, length};
 ghost use Rattle.meaning.specs.Plan.{most_bytes};
+ghost use Rattle.meaning.specs.Reading.{tab_byte};
+ghost use Rattle.text.specs.Bytes.{until};
 ghost use Rattle.fields.specs.Fields.{begun, with_number, FieldRead};
 
-use text::{Number, Word};
+use text::Word;
 
 const TAB: u8 = 9;
 
@@ -19,39 +21,38 @@ pub struct Line {
     pub fields: [i32; 4],
 }
 
-// The field behind a tab: its number and the place where it ends, or that it is no number.
-#[derive(Clone, Copy)]
-pub enum Field {
-    Number(i32, usize),
-    Wrong,
+// Where the first field of a line, or of what is left of it, ends: at a tab, or with the line.
+fn field_end(line: &[u8]) -> usize
+    ensures first { result ≡ until tab_byte line.now }
+    ensures inside { result ≤ length line.now }
+{
+    text::find(line, TAB).unwrap_or(line.len())
 }
 
-// The line from `at` up to `end`, none of its numbers read.
-pub fn begin(text: &[u8], number: usize, at: usize, end: usize) -> Line
-    requires { (at ≤ end) × (end ≤ length text.now) }
-    ensures { result ≡ begun text.now number at end }
+// The line, none of its numbers read.
+pub fn begin(line: &[u8], number: usize) -> Line
+    ensures { result ≡ begun line.now number }
 {
-    let first = text::find(text, at, end, TAB);
-    let word = text::read_word(text, at, first);
+    let first = field_end(line);
+    let word = text::read_word(&line[..first]);
     Line {
-        number: number,
-        word: word,
-        first: first,
+        number,
+        word,
+        first,
         count: 0,
         fields: [0; 4],
     }
 }
 
-// The field behind the tab at p, in a line that ends at `end`.
-pub fn field_after(text: &[u8], p: usize, end: usize) -> Field
-    requires { (p < end) × (end ≤ length text.now) }
-    ensures { FieldRead text.now p end result }
+// The field behind the tab at `tab`: its number and the place where it ends, or none where it is no number.
+pub fn field_after(line: &[u8], tab: usize) -> Option<(i32, usize)>
+    requires { tab < length line.now }
+    ensures { FieldRead line.now tab result }
 {
-    let next = text::find(text, p + 1, end, TAB);
-    match text::read_number(text, p + 1, next) {
-        Number::Value(v) => Field::Number(v, next),
-        Number::Stopped(_) => Field::Wrong,
-    }
+    let rest = &line[tab + 1..];
+    let count = field_end(rest);
+    let v = text::read_number(&rest[..count]).ok()?;
+    Some((v, tab + 1 + count))
 }
 
 // One number more.
@@ -60,11 +61,9 @@ pub fn with_number(line: Line, v: i32) -> Line
     ensures { result ≡ with_number line v }
 {
     let mut more = line;
-    let k = more.count;
-    more.count = k + 1;
-    if 4 <= k {
-        return more;
+    more.count += 1;
+    if line.count < 4 {
+        more.fields[line.count] = v;
     }
-    more.fields[k] = v;
     more
 }

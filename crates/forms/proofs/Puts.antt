@@ -1,39 +1,39 @@
 -- Bytes put one after the other, of which there are at most so many: a line, and lines that are put one by one.
 use mathlib.Core.Path.{◌≡◌, ap, ◌∙◌}
-use mathlib.Core.List.{List, [], ◌++◌}
+use mathlib.Core.List.{List, ◌++◌}
 use Prim.Native.Nat.{ℕ, ◌+◌, ◌*◌, ◌≤◌}
 use native.Mathlib.Omega.{arith}
-use lib.Dec.{T, leb, leb→le}
 use lib.IntN.{ℤ}
 use lib.ListN.{length, drop}
 use lib.Seq.{sets-eq}
 use Rattle.ticks.proofs.Shown.{Shows, none, more, shows_same}
 use Rattle.meaning.specs.Outcome.{over}
-use Rattle.print.specs.Written.{Wrote}
+use Rattle.print.specs.Sheets.{Puts}
+use Rattle.print.specs.declared.Sheet.{Sheet}
 use Rattle.print.specs.Lines.{line}
 use Rattle.print.proofs.Lines.{AllFit, line_most}
-use Rattle.print.proofs.Writes.{Going, going_start, going_then, wrote_none, wrote_then, wrote_as, wrote_long}
-use Rattle.forms.specs.Put.{Put}
+use Rattle.print.proofs.Writes.{Going, going_then, wrote_then, wrote_as, wrote_long}
+use Rattle.forms.specs.Put.{Put, Adds}
 
 -- ---- bytes that were put
 
-pub put_none : (s : List ℕ) (at most : ℕ) → at ≤ length s → Put s s at at most []
-put_none s at most h = record { wrote = wrote_none s at h; few = omega arith }
-
-module _ {s u : List ℕ} {at m a : ℕ} {x : List ℕ} (p : Put s u at m a x) where
-  pub put_long : length u ≡ length s
-  put_long = wrote_long p.wrote
+module _ {s u : Sheet} {a : ℕ} {x : List ℕ} (p : Adds s u a x) where
+  pub adds_long : length u.out.now ≡ length s.out.now
+  adds_long = wrote_long p.puts.wrote
 
   -- the one after the other
-  pub put_then : {v : List ℕ} {r b : ℕ} {y : List ℕ} → Put u v m r b y → Put s v at r (a + b) (x ++ y)
-  put_then {v} {r} {b} {y} q = record { wrote = wrote_then p.wrote q.wrote; few = omega (arith, p.few, q.few) }
+  pub adds_then : {v : Sheet} {b : ℕ} {y : List ℕ} → Adds u v b y → Adds s v (a + b) (x ++ y)
+  adds_then q = record {
+    puts = record { wrote = wrote_then p.puts.wrote q.puts.wrote; same = q.puts.same ∙ p.puts.same };
+    few = omega (arith, p.few, q.few);
+  }
 
   -- the same bytes under another name
-  pub put_as : {y : List ℕ} → x ≡ y → Put s u at m a y
-  put_as e = record { wrote = wrote_as e p.wrote; few = p.few }
+  pub adds_as : {y : List ℕ} → x ≡ y → Adds s u a y
+  adds_as e = record { puts = record { wrote = wrote_as e p.puts.wrote; same = p.puts.same }; few = p.few }
 
-  pub put_most : (b : ℕ) → a ≤ b → Put s u at m b x
-  put_most b h = record { wrote = p.wrote; few = omega (arith, p.few) }
+  pub adds_most : (b : ℕ) → a ≤ b → Adds s u b x
+  adds_most b h = record { puts = p.puts; few = omega (arith, p.few) }
 
 -- what was put at the front stands over what was there
 pub put_front : {s u x : List ℕ} {r m : ℕ} → Put s u 0 r m x → (r ≡ length x) × (u ≡ over x s)
@@ -48,36 +48,27 @@ shows_fit none = tt
 shows_fit (more e f s) = (f, shows_fit s)
 
 -- so many bytes have room for the word, the numbers with their tabs, and the line feed
-module _ (word : List ℕ) {xs zs : List ℤ} (s : Shows xs zs) (room : ℕ) (h : T (leb (length word + (21 * length zs + 1)) room)) where
-  enough : length word + (21 * length zs + 1) ≤ room
-  enough = leb→le (length word + (21 * length zs + 1)) room h
+module _ (word : List ℕ) {xs zs : List ℤ} (s : Shows xs zs) (room : ℕ) (enough : length word + (21 * length zs + 1) ≤ room) where
+  pub line_fits : (at long : ℕ) → at + room ≤ long → at + length (line word xs) ≤ long
+  line_fits at long l = omega (arith, ap (λ (l : List ℤ). length (line word l)) (shows_same s), line_most word zs (shows_fit s), enough)
 
-  pub line_room_lem : (at long : ℕ) → at + room ≤ long → at + length (line word xs) ≤ long
-  line_room_lem at long l = omega (arith, ap (λ (l : List ℤ). length (line word l)) (shows_same s), line_most word zs (shows_fit s), enough)
-
-  pub line_put : {a b : List ℕ} {at r : ℕ} → Wrote a b at r (line word xs) → Put a b at r room (line word zs)
-  line_put p =
-      let q = wrote_as (ap (line word) (shows_same s)) p in
-      record { wrote = q; few = omega (arith, q.ends, line_most word zs (shows_fit s), enough) }
+  pub line_adds : {a b : Sheet} → Puts a b (line word xs) → Adds a b room (line word zs)
+  line_adds p =
+      let q = wrote_as (ap (line word) (shows_same s)) p.wrote in
+      record { puts = record { wrote = q; same = p.same }; few = omega (arith, q.ends, line_most word zs (shows_fit s), enough) }
 
 -- ---- lines one by one
 
--- what was put with the rest behind it is the whole
-pub record Printing (s u : List ℕ) (at next most : ℕ) (whole rest : List ℕ) : Type 0 where
-  pub going : Going s u at next whole rest
-  pub few : next ≤ at + most
+-- what was put with the rest behind it is the whole, and the area is the one that was lent
+pub record Printing (before now : Sheet) (most : ℕ) (whole rest : List ℕ) : Type 0 where
+  pub going : Going before.out.now now.out.now before.at now.at whole rest
+  pub few : now.at ≤ before.at + most
+  pub same : now.out.ghost_name ≡ before.out.ghost_name
 
-pub printing_start : (s : List ℕ) (at : ℕ) (whole : List ℕ) → Printing s s at at 0 whole whole
-printing_start s at whole = record { going = going_start s at whole; few = omega arith }
+module _ {s u : Sheet} {a : ℕ} {whole rest : List ℕ} (p : Printing s u a whole rest) where
+  pub printing_then : {v : Sheet} {b : ℕ} {x y : List ℕ} (c : ℕ) → a + b ≤ c → rest ≡ x ++ y → Adds u v b x → Printing s v c whole y
+  printing_then c h e q = record { going = going_then p.going e q.puts.wrote; few = omega (arith, p.few, q.few); same = q.puts.same ∙ p.same }
 
-module _ {s u : List ℕ} {at m a : ℕ} {whole rest : List ℕ} (p : Printing s u at m a whole rest) where
-  pub printing_then : {v : List ℕ} {r b : ℕ} {x y : List ℕ} (c : ℕ) → a + b ≤ c → rest ≡ x ++ y → Put u v m r b x → Printing s v at r c whole y
-  printing_then c h e q = record { going = going_then p.going e q.wrote; few = omega (arith, p.few, q.few) }
-
-  pub printing_end : at + a ≤ length s → rest ≡ [] → Put s u at m a whole
-  printing_end h e =
-      let g = going_then p.going e (wrote_none u m (omega (arith, p.few, p.going.long))) in
-      record {
-        wrote = record { ends = omega (arith, g.ends); room = omega (arith, g.ends, p.few); holds = g.joined };
-        few = p.few;
-      }
+  -- nothing is put, and the rest under another name
+  pub printing_past : {y : List ℕ} (c : ℕ) → a ≤ c → rest ≡ y → Printing s u c whole y
+  printing_past c h e = record { going = rw e at p.going; few = omega (arith, p.few); same = p.same }

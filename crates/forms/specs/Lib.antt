@@ -1,5 +1,3 @@
 -- The printed form, and how it is put.
 pub mod Printed
 pub mod Put
-pub mod Rows
-pub mod Timed

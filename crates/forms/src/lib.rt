@@ -1,21 +1,20 @@
 // The printed form of an outcome, put into a lent area.
 #![tactic(auto)]
 
-ghost use Rattle.std.specs.Prelude.{◌≡◌, cond, ◌+◌, ◌*◌, ◌≤◌, ◌<◌, eqb, length, take};
+ghost use Rattle.std.specs.Prelude.{◌≡◌, ◌+◌, ◌*◌, ◌≤◌, length};
 ghost use Rattle.meaning.specs.Plan as M;
 ghost use Rattle.meaning.specs.Plan.{wishes, most_events, most_records, most_bytes};
 ghost use Rattle.meaning.specs.Outcome.{solved, none, refusal};
-ghost use Rattle.meaning.specs.Faultless.{WithoutFault};
-ghost use Rattle.plan.specs.Held.{Holds, InMemory};
+ghost use Rattle.scope.specs.Faults.{number};
 ghost use Rattle.codes.specs.Codes.{as_bound};
 ghost use Rattle.forms.specs.Printed.{at_lines, level_lines, step_line, step_lines, printed};
-ghost use Rattle.forms.specs.Put.{line_room, step_room, area_room, Put};
-ghost use Rattle.forms.specs.Rows.{level_line};
-ghost use Rattle.forms.specs.Timed.{Timed};
+ghost use Rattle.forms.specs.Put.{line_room, step_room, area_room, Put, Free, Adds};
 
 use codes::Step;
-use plan::Plan;
-use scope::{MOST_EVENTS, MOST_RECORDS};
+use plan::Loaded;
+use print::Sheet;
+use scope::{MOST_EVENTS, MOST_RECORDS, Refusal};
+use widths::Width;
 
 // The bytes of a line with two numbers, at most.
 const LINE_ROOM: usize = 64;
@@ -25,119 +24,88 @@ pub const AREA: usize = LINE_ROOM * (1 + MOST_EVENTS + MOST_RECORDS);
 
 // ---- the lines of times and levels
 
-// The lines `at` of the first n times; the place after them.
-fn at_lines(out: &mut [u8], at: usize, times: &[i64], n: usize) -> usize
-    requires { (at + line_room * n ≤ length out.old) × (n ≤ length times.now) × (n ≤ most_events) }
-    ensures { Put out.old out.new at result (line_room * n) (at_lines 0 (take n times.now)) }
+// The lines `at` of the times.
+fn at_lines(sheet: &mut Sheet, times: &[i64])
+    requires { Free sheet.old (line_room * length times.now) × (length times.now ≤ most_events) }
+    ensures { Adds sheet.old sheet.new (line_room * length times.now) (at_lines 0 times.now) }
 {
-    let mut next = at;
-    for e in 0..n {
-        let row = [widths::to_i64(e), times[e]];
-        next = print::put_line(out, next, b"at", &row);
+    for (e, &time) in times.iter().enumerate() {
+        sheet.line(b"at", &[i64::of(e), time]);
     }
-    next
 }
 
-// The line `level` of record k, which has none where it has no levels.
-fn level_line(out: &mut [u8], at: usize, count: u16, k: usize, level: u8) -> usize
-    requires { (at + line_room ≤ length out.old) × (k < most_records) }
-    ensures { Put out.old out.new at result line_room (level_line count k level) }
+// The lines `level` of the plan's wishes, the records that have levels, with the level that each wish is given.
+fn level_lines(sheet: &mut Sheet, plan: &Loaded, levels: &[u8])
+    requires { Free sheet.old (line_room * most_records) × (length levels.now ≡ wishes plan.now) }
+    ensures { Adds sheet.old sheet.new (line_room * most_records) (level_lines 0 plan.now.records levels.now) }
 {
-    if count == 0 {
-        return at;
+    let mut w = 0;
+    for (k, r) in plan.plan.records[..plan.plan.count].iter().enumerate() {
+        if r.count > 0 {
+            sheet.line(b"level", &[i64::of(k), i64::from(levels[w])]);
+            w += 1;
+        }
     }
-    let row = [widths::to_i64(k), widths::to_i64(widths::from_u8(level))];
-    print::put_line(out, at, b"level", &row)
-}
-
-// The number of wishes that a record with so many levels is.
-fn wish_of(count: u16) -> usize
-    ensures { result ≡ cond (eqb count 0) 0 1 }
-{
-    if count == 0 { 0 } else { 1 }
-}
-
-// The lines `level` of the plan's wishes, whose levels stand in front; the place after them.
-fn level_lines(out: &mut [u8], at: usize, h: Plan, levels: &[u8]) -> usize
-    requires { (at + line_room * h.count ≤ length out.old) × (most_records ≤ length levels.now) × ((p : M.Plan) × Holds p h × WithoutFault p) }
-    ensures { (p : M.Plan) → Holds p h → WithoutFault p
-        → Put out.old out.new at result (line_room * h.count) (level_lines 0 p.records (take (wishes p) levels.now)) }
-{
-    let mut next = at;
-    let mut w: usize = 0;
-    let n = h.count;
-    for k in 0..n {
-        let count = h.records[k].count;
-        next = level_line(out, next, count, k, levels[w]);
-        w += wish_of(count);
-    }
-    next
 }
 
 // ---- the lines of a chain
 
-// The line of one step; the place after it.
-fn put_step(out: &mut [u8], at: usize, s: Step) -> usize
-    requires { at + step_room ≤ length out.old }
-    ensures { Put out.old out.new at result step_room (step_line (as_bound s)) }
+// The line of one step.
+fn put_step(sheet: &mut Sheet, s: Step)
+    requires { Free sheet.old step_room }
+    ensures { Adds sheet.old sheet.new step_room (step_line (as_bound s)) }
 {
     let row = [
-        widths::to_i64(widths::from_u16(s.from)),
-        widths::to_i64(widths::from_u16(s.to)),
+        i64::from(s.from),
+        i64::from(s.to),
         s.weight,
-        widths::to_i64(widths::from_u16(s.code)),
+        i64::from(s.code),
     ];
-    print::put_line(out, at, b"step", &row)
+    sheet.line(b"step", &row);
 }
 
-// The lines `step` of the first codes of a chain; the place after them.
-fn step_lines(out: &mut [u8], at: usize, h: Plan, held: &[u8], chain: &[u16], steps: usize) -> usize
-    requires { (at + step_room * steps ≤ length out.old) × (steps ≤ length chain.now) × ((p : M.Plan) × InMemory p h held.now) }
-    ensures { (p : M.Plan) → InMemory p h held.now
-        → Put out.old out.new at result (step_room * steps) (step_lines p (take steps chain.now)) }
+// The lines `step` of the codes of a chain.
+fn step_lines(sheet: &mut Sheet, plan: &Loaded, chain: &[u16])
+    requires { Free sheet.old (step_room * length chain.now) }
+    ensures { Adds sheet.old sheet.new (step_room * length chain.now) (step_lines plan.now chain.now) }
 {
-    let mut next = at;
-    for i in 0..steps {
-        next = put_step(out, next, codes::step_of(h, held, chain[i]));
+    for &c in chain {
+        put_step(sheet, codes::step_of(plan, c));
     }
-    next
 }
 
 // ---- the form of an outcome
 
 // The form of a refusal.
-pub fn put_refused(out: &mut [u8], number: u8, line: usize) -> usize
-    requires { (area_room ≤ length out.old) × (line ≤ most_bytes + 1) }
-    ensures { (p : M.Plan) → Put out.old out.new 0 result area_room (printed p (refusal number line)) }
+pub fn put_refused(out: &mut [u8], refused: Refusal) -> usize
+    requires { (area_room ≤ length out.old) × (refused.line ≤ most_bytes + 1) }
+    ensures { (p : M.Plan) → Put out.old out.new 0 result area_room (printed p (refusal (number refused.fault) refused.line)) }
 {
-    let row = [
-        widths::to_i64(widths::from_u8(number)),
-        widths::to_i64(line),
-    ];
-    print::put_line(out, 0, b"refused", &row)
+    let mut sheet = Sheet { out, at: 0 };
+    let fault = i64::from(u8::from(refused.fault));
+    sheet.line(b"refused", &[fault, i64::of(refused.line)]);
+    sheet.at
 }
 
-// The form of a chain of so many steps.
-pub fn put_none(out: &mut [u8], h: Plan, held: &[u8], chain: &[u16], steps: usize) -> usize
-    requires { (area_room ≤ length out.old) × (steps ≤ length chain.now) × (steps ≤ most_events) × ((p : M.Plan) × InMemory p h held.now) }
-    ensures { (p : M.Plan) → InMemory p h held.now
-        → Put out.old out.new 0 result area_room (printed p (none (take steps chain.now))) }
+// The form of a chain.
+pub fn put_none(out: &mut [u8], plan: &Loaded, chain: &[u16]) -> usize
+    requires { (area_room ≤ length out.old) × (length chain.now ≤ most_events) }
+    ensures { Put out.old out.new 0 result area_room (printed plan.now (none chain.now)) }
 {
-    let row = [widths::to_i64(steps)];
-    let next = print::put_line(out, 0, b"none", &row);
-    step_lines(out, next, h, held, chain, steps)
+    let mut sheet = Sheet { out, at: 0 };
+    sheet.line(b"none", &[i64::of(chain.len())]);
+    step_lines(&mut sheet, plan, chain);
+    sheet.at
 }
 
-// The form of the times and the levels of a plan with w wishes.
-pub fn put_solved(out: &mut [u8], h: Plan, w: usize, times: &[i64], levels: &[u8]) -> usize
-    requires { (area_room ≤ length out.old) × ((p : M.Plan) × Timed p h w times.now levels.now) }
-    ensures { (p : M.Plan) → Timed p h w times.now levels.now
-        → Put out.old out.new 0 result area_room
-        (printed p (solved (take p.events times.now) (take (wishes p) levels.now))) }
+// The form of the times of a plan's events and the levels of its wishes.
+pub fn put_solved(out: &mut [u8], plan: &Loaded, times: &[i64], levels: &[u8]) -> usize
+    requires { (area_room ≤ length out.old) × (length times.now ≤ most_events) × (length levels.now ≡ wishes plan.now) }
+    ensures { Put out.old out.new 0 result area_room (printed plan.now (solved times.now levels.now)) }
 {
-    let n = h.events;
-    let row = [widths::to_i64(n), widths::to_i64(w)];
-    let first = print::put_line(out, 0, b"solved", &row);
-    let next = at_lines(out, first, times, n);
-    level_lines(out, next, h, levels)
+    let mut sheet = Sheet { out, at: 0 };
+    sheet.line(b"solved", &[i64::of(times.len()), i64::of(levels.len())]);
+    at_lines(&mut sheet, times);
+    level_lines(&mut sheet, plan, levels);
+    sheet.at
 }

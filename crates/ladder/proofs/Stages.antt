@@ -1,38 +1,36 @@
--- The climb record by record: what the functions do to the matrix and to the levels is a step of the ladder. By the record: a rule,
--- a wish that failed before, a question answered yes or no.
+-- The climb wish by wish: what the functions do to the matrix and to the levels is a step of the ladder. By the wish: it failed before, or its question
+-- is answered yes or no. A rule has no question.
 use mathlib.Core.Path.{◌≡◌, refl, sym, ap, ◌∙◌}
 use mathlib.Core.Bool.{Bool, true, false}
 use mathlib.Core.List.{List}
 use Prim.Native.Nat.{ℕ, suc, ◌+◌, ◌-◌, ◌≤◌, ◌<◌}
 use native.Mathlib.Nat.{not-suc-le-zero}
 use native.Mathlib.Decide.{ℕ_discrete}
-use native.Mathlib.Numerals.{add-one}
 use native.Mathlib.Omega.{arith}
 use lib.ListN.{length, get_or, set}
 use lib.IntN.{ℤ, pos, ◌+ℤ◌, ◌-ℤ◌}
 use Rattle.meaning.specs.Plan as M
-use Rattle.meaning.specs.Plan.{record_at, Times, Within, top_level}
+use Rattle.meaning.specs.Plan.{record_at, wishes, Times, Within, top_level}
 use Rattle.meaning.specs.Distances.{outermost, Stands}
 use Rattle.meaning.specs.Run.{run_first, run_past}
-use Rattle.meaning.specs.Faultless.{GoodRecord}
+use Rattle.meaning.specs.Faultless.{GoodRecord, WithoutFault}
 use Rattle.meaning.specs.Climb.{number, ClimbedTo}
 use Rattle.scope.specs.declared.Side.TheVariants.{Latest}
 use Rattle.meaning.proofs.Stands.{stands_same, stands_outermost}
 use Rattle.meaning.proofs.Solve.{Between}
 use Rattle.meaning.proofs.Runs.{Run, run_is}
 use Rattle.meaning.proofs.Over.{over_at, over_set}
-use Rattle.meaning.proofs.Wishes.{wish_number, wish_below, next_wish, next_rule, climb_rule, climb_failed, climb_yes, climb_within, climb_no, climb_next}
+use Rattle.meaning.proofs.Wishes.{wish_number, wish_below, next_wish, all_wishes, climb_failed, climb_yes, climb_within, climb_no, climb_next}
 use Rattle.plan.specs.declared.Record.{Record}
-use Rattle.plan.specs.declared.Plan.{Plan}
-use Rattle.plan.specs.Held.{levels_in, row_of, levels_at, blank, InMemory}
-use Rattle.plan.proofs.Use.{row_held}
+use Rattle.plan.specs.Held.{levels_in, row_of, levels_at}
 use Rattle.cut.specs.Cut.{Cutting}
-use Rattle.cut.proofs.Cuts.{cutting}
+use Rattle.distances.specs.declared.Matrix.{Matrix}
 use Rattle.distances.specs.Matrix.{at, Net, Narrowing, Narrowed}
 use Rattle.distances.proofs.Net.{narrowed_means, narrowed_none}
 use Rattle.distances.proofs.Rows.{beside_then, narrowed_beside}
-use Rattle.ladder.specs.Climbing.{WishAnswered, WishClimbed, RecordAsking, RecordClimbed, Stage, Grading, Graded}
+use Rattle.ladder.specs.Climbing.{Asking, WishAnswered, WishClimbed, Stage, Grading, Graded}
 use Rattle.ladder.proofs.Asks.{wish_narrowing}
+use Rattle.ladder.proofs.Wishes.{Wish}
 
 -- ---- the matrix held to a run
 
@@ -57,13 +55,13 @@ same_grades s c = record { grades = s.grades; climbed = c; written = s.written; 
 module _ {p : M.Plan} {g k : ℕ} {old d : List ℤ} {before levels : List ℕ}
     (s : Stage p g k old d before levels) (l : k < length p.records) (held : List ℕ) (first : ℕ) where
   record_asking : (m : M.Record) → record_at p k ≡ m → GoodRecord p.events m → length p.records ≤ length levels →
-      Cutting (row_of first m) held → levels_at (row_of first m) held ≡ levels_in m →
-      RecordAsking p.events (row_of first m) held (suc g) (number p k) d levels
-  record_asking (M.rule a b lo hi) e q few cut same = record { asking = λ z. absurd (not-suc-le-zero z); inside = λ z. absurd (not-suc-le-zero z) }
-  record_asking (M.wish a b lo ls) e q few cut same = record {
-    asking = λ z. record { cutting = cut; narrowing = rw same (wish_narrowing (suc g) q s.net); grade = omega arith };
-    inside = λ z. omega (arith, wish_below p.records k l e);
-  }
+      Cutting (row_of first m) held → levels_at (row_of first m) held ≡ levels_in m → 0 < (row_of first m).count →
+      Asking p.events (row_of first m) held (suc g) d × (number p k < length levels)
+  record_asking (M.rule a b lo hi) e q few cut same z = absurd (not-suc-le-zero z)
+  record_asking (M.wish a b lo ls) e q few cut same z = (
+    record { cutting = cut; narrowing = rw same (wish_narrowing (suc g) q s.net); grade = omega arith },
+    omega (arith, wish_below p.records k l e),
+  )
 
   -- the wish that is record k
   module _ {a b : ℕ} {lo : ℤ} {ls : List ℕ} (e : record_at p k ≡ M.wish a b lo ls) (q : GoodRecord p.events (M.wish a b lo ls)) (top : g < top_level) where
@@ -120,71 +118,60 @@ module _ {p : M.Plan} {g k : ℕ} {old d : List ℤ} {before levels : List ℕ}
         go (yes i) = answered same (c.climbing i)
         go (no i) = rw ((c.stopped i).0, (c.stopped i).1) (not_asked i)
 
-  record_next : {d' : List ℤ} {levels' : List ℕ} {r : ℕ} → g < top_level → (m : M.Record) → record_at p k ≡ m → GoodRecord p.events m →
-      levels_at (row_of first m) held ≡ levels_in m →
-      RecordClimbed p.events (row_of first m) held (suc g) (number p k) d d' levels levels' r →
-      Stage p g (suc k) old d' before levels' × (r ≡ number p (suc k))
-  record_next top (M.rule a b lo hi) e q same c =
-      let z = c.rule refl in
-      (rw (z.0, z.1) (same_grades s (climb_rule p s.climbed l e)), z.2 ∙ sym (next_rule p.records k l e))
-  record_next top (M.wish a b lo ls) e q same c =
-      let z = c.wish q.levelled.some in
-      (wish_next e q top same z.0, z.1 ∙ omega (arith, next_wish p.records k l e))
+  record_climbed : {d' : List ℤ} {levels' : List ℕ} → g < top_level → (m : M.Record) → record_at p k ≡ m → GoodRecord p.events m →
+      levels_at (row_of first m) held ≡ levels_in m → 0 < (row_of first m).count →
+      WishClimbed p.events (row_of first m) held (suc g) (number p k) d d' levels levels' →
+      Stage p g (suc k) old d' before levels' × (number p k + 1 ≡ number p (suc k))
+  record_climbed top (M.rule a b lo hi) e q same z c = absurd (not-suc-le-zero z)
+  record_climbed top (M.wish a b lo ls) e q same z c = (wish_next e q top same c, omega (arith, next_wish p.records k l e))
 
--- ---- one grade: k records of it are done, w of them wishes
+-- ---- one grade: w wishes of it are done, and so are the first k records for each k that has w wishes before it
 
-pub record Upto (h : Plan) (held : List ℕ) (y k w : ℕ) (d₀ d : List ℤ) (levels₀ levels : List ℕ) : Type 0 where
-  pub most : k ≤ h.count
-  pub size : length d ≡ length d₀
+pub record Upto (p : M.Plan) (y w : ℕ) (d₀ d : Matrix) (levels₀ levels : List ℕ) : Type 0 where
+  pub events : d.events ≡ d₀.events
   pub long : length levels ≡ length levels₀
-  pub stage : {p : M.Plan} {g : ℕ} {old : List ℤ} {before : List ℕ} → InMemory p h held → y ≡ suc g →
-      Stage p g 0 old d₀ before levels₀ → Stage p g k old d before levels × (w ≡ number p k)
+  pub stage : {g : ℕ} {old : List ℤ} {before : List ℕ} → y ≡ suc g → Stage p g 0 old d₀.entries before levels₀ →
+      (k : ℕ) → number p k ≡ w → Stage p g k old d.entries before levels
 
-pub upto_none : {h : Plan} {held : List ℕ} {y : ℕ} {d : List ℤ} {levels : List ℕ} → Upto h held y 0 0 d d levels levels
-upto_none = record { most = omega arith; size = refl; long = refl; stage = λ o e s. (s, refl) }
-
--- the same with other words for the events, the grade and the number of the wish
-asking_as : {n n' y y' w w' : ℕ} {x x' : Record} {held : List ℕ} {d : List ℤ} {levels : List ℕ} →
-    n' ≡ n → x' ≡ x → y' ≡ y → w' ≡ w → RecordAsking n x held y w d levels → RecordAsking n' x' held y' w' d levels
+-- the same with other words for the events, the row, the grade and the number of the wish
+asking_as : {n n' y y' w w' m : ℕ} {x x' : Record} {held : List ℕ} {d : List ℤ} →
+    n' ≡ n → x' ≡ x → y' ≡ y → w' ≡ w → Asking n x held y d × (w < m) → Asking n' x' held y' d × (w' < m)
 asking_as en ex ey ew a = rw (en, ex, ey, ew) a
 
-climbed_as : {n n' y y' w w' r : ℕ} {x x' : Record} {held : List ℕ} {d d' : List ℤ} {levels levels' : List ℕ} →
-    n' ≡ n → x' ≡ x → y' ≡ y → w' ≡ w → RecordClimbed n' x' held y' w' d d' levels levels' r → RecordClimbed n x held y w d d' levels levels' r
+climbed_as : {n n' y y' w w' : ℕ} {x x' : Record} {held : List ℕ} {d d' : List ℤ} {levels levels' : List ℕ} →
+    n' ≡ n → x' ≡ x → y' ≡ y → w' ≡ w → WishClimbed n' x' held y' w' d d' levels levels' → WishClimbed n x held y w d d' levels levels'
 climbed_as en ex ey ew c = rw (en, ex, ey, ew) at c
 
-module _ {h : Plan} {held : List ℕ} {y k w n : ℕ} {d₀ d : List ℤ} {levels₀ levels : List ℕ}
-    (asked : Grading h held y d₀ levels₀) (u : Upto h held y k w d₀ d levels₀ levels) (l : k < h.count) (events : n ≡ h.events) where
-  pub upto_asks : RecordAsking n (get_or h.records k blank) held y w d levels
+module _ {p : M.Plan} {held : List ℕ} (f : WithoutFault p) {y w : ℕ} {d₀ d : Matrix} {levels₀ levels : List ℕ}
+    (asked : Grading p y d₀ levels₀) (u : Upto p y w d₀ d levels₀ levels) {x : Record} (r : Wish p held w x) where
+  events : d.events ≡ p.events
+  events = u.events ∙ asked.events
+
+  pub upto_asks : Asking d.events x held y d.entries × (w < length levels)
   upto_asks =
-      let o = asked.memory in
-      let s = u.stage o asked.next asked.stage in
-      let i : k < length asked.plan.records = omega (arith, o.holds.count) in
-      let x = row_held o k i in
-      asking_as (events ∙ o.holds.events) x.row asked.next s.1
-      (record_asking s.0 i held (get_or h.records k blank).first (record_at asked.plan k) refl (o.faultless.each k i)
-      (omega (arith, o.faultless.few, asked.room, u.long)) (rw x.row at (cutting o k)) (rw x.row at x.levels))
+      let s = u.stage asked.next asked.stage r.place (sym r.number) in
+      asking_as events r.row.row asked.next r.number
+      (record_asking s r.inside held x.first (record_at p r.place) refl (f.each r.place r.inside) (omega (arith, f.few, asked.room, u.long))
+      (rw r.row.row at r.cutting) (rw r.row.row at r.row.levels) (rw r.row.row at r.some))
 
-  pub upto_next : {d' : List ℤ} {levels' : List ℕ} {r : ℕ} → RecordClimbed n (get_or h.records k blank) held y w d d' levels levels' r →
-      length d' ≡ length d → length levels' ≡ length levels → Upto h held y (k + 1) r d₀ d' levels₀ levels'
-  upto_next {d'} {levels'} {r} c size long = record { most = omega arith; size = size ∙ u.size; long = long ∙ u.long; stage = next }
+  pub upto_next : {d' : Matrix} {levels' : List ℕ} → WishClimbed d.events x held y w d.entries d'.entries levels levels' →
+      d'.events ≡ d.events → length levels' ≡ length levels → Upto p y (w + 1) d₀ d' levels₀ levels'
+  upto_next {d'} {levels'} c same long = record { events = same ∙ u.events; long = long ∙ u.long; stage = next }
     where
-      next : {p : M.Plan} {g : ℕ} {old : List ℤ} {before : List ℕ} → InMemory p h held → y ≡ suc g →
-          Stage p g 0 old d₀ before levels₀ → Stage p g (k + 1) old d' before levels' × (r ≡ number p (k + 1))
-      next {p} o e s₀ =
-          let s = u.stage o e s₀ in
-          let i : k < length p.records = omega (arith, o.holds.count) in
-          let x = row_held o k i in
-          rw (add-one k)
-          (record_next s.0 i held (get_or h.records k blank).first (omega (arith, asked.top)) (record_at p k) refl (o.faultless.each k i)
-          (rw x.row at x.levels) (climbed_as (events ∙ o.holds.events) x.row e s.1 c))
+      next : {g : ℕ} {old : List ℤ} {before : List ℕ} → y ≡ suc g → Stage p g 0 old d₀.entries before levels₀ →
+          (k : ℕ) → number p k ≡ w + 1 → Stage p g k old d'.entries before levels'
+      next {g} {old} {before} e s₀ k n =
+          let s = u.stage e s₀ r.place (sym r.number) in
+          let t = record_climbed s r.inside held x.first (omega (arith, asked.top)) (record_at p r.place) refl (f.each r.place r.inside)
+          (rw r.row.row at r.row.levels) (rw r.row.row at r.some) (climbed_as events r.row.row e r.number c) in
+          let m : number p k ≡ number p (suc r.place) = omega (arith, n, r.number, t.1) in
+          same_grades t.0 (rw m t.0.climbed)
 
-pub upto_all : {h : Plan} {held : List ℕ} {y k w : ℕ} {d₀ d : List ℤ} {levels₀ levels : List ℕ} →
-    Upto h held y k w d₀ d levels₀ levels → h.count ≤ k → Graded h held y d₀ d levels₀ levels
-upto_all {h} {held} {y} {k} {w} {d₀} {d} {levels₀} {levels} u l = record { graded = all }
+pub upto_all : {p : M.Plan} {y w : ℕ} {d₀ d : Matrix} {levels₀ levels : List ℕ} →
+    Upto p y w d₀ d levels₀ levels → w ≡ wishes p → Graded p y d₀.entries d.entries levels₀ levels
+upto_all {p} {y} {w} {d₀} {d} {levels₀} {levels} u n = record { graded = all }
   where
-    all : {p : M.Plan} {g : ℕ} {old : List ℤ} {before : List ℕ} → InMemory p h held → y ≡ suc g →
-        Stage p g 0 old d₀ before levels₀ → Stage p y 0 old d before levels
-    all {p} {g} {old} {before} o e s₀ =
-        let i : k ≡ length p.records = omega (arith, o.holds.count, u.most) in
-        let s : Stage p g (length p.records) old d before levels = rw i at (u.stage o e s₀).0 in
+    all : {g : ℕ} {old : List ℤ} {before : List ℕ} → y ≡ suc g → Stage p g 0 old d₀.entries before levels₀ → Stage p y 0 old d.entries before levels
+    all e s₀ =
+        let s = u.stage e s₀ (length p.records) (all_wishes p.records ∙ sym n) in
         rw e (same_grades s (climb_next p s.climbed))

@@ -4,15 +4,14 @@ use Rattle.meaning.specs.Plan as M
 use Rattle.meaning.specs.Plan.{Times, Timetable, levels, wishes}
 use Rattle.meaning.specs.Outcome.{BestTimes, over}
 use Rattle.meaning.specs.Distances.{Stands}
-use Rattle.plan.specs.declared.Plan.{Plan}
-use Rattle.plan.specs.Held.{InMemory}
+use Rattle.distances.specs.declared.Matrix.{Matrix}
 use Rattle.distances.specs.Matrix.{at, Net, Beside}
 
--- a plan without fault in memory, and the matrix of its timetables
-pub record Ready (p : M.Plan) (h : Plan) (held : List ℕ) (d : List ℤ) : Type 0 where
-  pub memory : InMemory p h held
-  pub net : Net p.events p.horizon d
-  pub stands : Stands p.events (at d) (Timetable p)
+-- the matrix of a plan's timetables
+pub record Ready (p : M.Plan) (d : Matrix) : Type 0 where
+  pub events : d.events ≡ p.events
+  pub net : Net p.events p.horizon d.entries
+  pub stands : Stands p.events (at d.entries) (Timetable p)
 
 -- the levels of the best timetables stand at the front of the levels, and the matrix is that of the best timetables; beside the n × n entries in use
 -- nothing changed

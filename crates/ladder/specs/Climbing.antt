@@ -1,5 +1,5 @@
 -- What the functions of the climb ask of one another: one question, one grade, and where the climb begins.
-use Rattle.std.specs.Prelude.{◌≡◌, Bool, true, false, List, ℕ, suc, ◌+◌, ◌-◌, ◌≤◌, ◌<◌, length, get_or, set, replicate, ℤ}
+use Rattle.std.specs.Prelude.{◌≡◌, Bool, true, false, List, ℕ, suc, ◌-◌, ◌≤◌, length, get_or, set, replicate, ℤ}
 use Rattle.meaning.specs.Plan as M
 use Rattle.meaning.specs.Plan.{most_records, top_level, least_level, wishes}
 use Rattle.meaning.specs.Outcome.{over}
@@ -7,9 +7,8 @@ use Rattle.meaning.specs.Faultless.{WithoutFault}
 use Rattle.meaning.specs.Distances.{Stands}
 use Rattle.meaning.specs.Climb.{ClimbedTo, Left}
 use Rattle.plan.specs.declared.Record.{Record}
-use Rattle.plan.specs.declared.Plan.{Plan}
-use Rattle.plan.specs.Held.{Holds, InMemory}
 use Rattle.cut.specs.Cut.{Cutting, run_of}
+use Rattle.distances.specs.declared.Matrix.{Matrix}
 use Rattle.distances.specs.Matrix.{at, Net, Beside, Narrowing, Narrowed}
 use Rattle.ladder.specs.Climbed.{Ready}
 
@@ -37,16 +36,6 @@ pub record WishClimbed (n : ℕ) (x : Record) (held : List ℕ) (y w : ℕ) (d d
   pub climbing : get_or before w 0 ≡ y - 1 → WishAnswered n x held y w d d' before after
   pub stopped : (get_or before w 0 ≡ y - 1 → ⊥) → (d' ≡ d) × (after ≡ before)
 
--- ---- one record at grade y, w wishes before it: a rule has no question
-
-pub record RecordAsking (n : ℕ) (x : Record) (held : List ℕ) (y w : ℕ) (d : List ℤ) (levels : List ℕ) : Type 0 where
-  pub asking : 0 < x.count → Asking n x held y d
-  pub inside : 0 < x.count → w < length levels
-
-pub record RecordClimbed (n : ℕ) (x : Record) (held : List ℕ) (y w : ℕ) (d d' : List ℤ) (before after : List ℕ) (r : ℕ) : Type 0 where
-  pub rule : x.count ≡ 0 → (d' ≡ d) × (after ≡ before) × (r ≡ w)
-  pub wish : 0 < x.count → WishClimbed n x held y w d d' before after × (r ≡ w + 1)
-
 -- ---- one grade
 
 -- g grades are done, and k records of the next; old and before are the matrix and the levels before the climb
@@ -58,34 +47,28 @@ pub record Stage (p : M.Plan) (g k : ℕ) (old d : List ℤ) (before after : Lis
   pub stands : Stands p.events (at d) (Left p grades)
   pub beside : Beside p.events old d
 
-pub record Grading (h : Plan) (held : List ℕ) (y : ℕ) (d : List ℤ) (levels : List ℕ) : Type 0 where
-  pub plan : M.Plan
-  pub memory : InMemory plan h held
+pub record Grading (p : M.Plan) (y : ℕ) (d : Matrix) (levels : List ℕ) : Type 0 where
+  pub events : d.events ≡ p.events
   pub grade : ℕ
   pub next : y ≡ suc grade
   pub top : y ≤ top_level
   pub old : List ℤ
   pub before : List ℕ
-  pub stage : Stage plan grade 0 old d before levels
+  pub stage : Stage p grade 0 old d.entries before levels
   pub room : most_records ≤ length levels
 
-pub record Graded (h : Plan) (held : List ℕ) (y : ℕ) (d d' : List ℤ) (levels levels' : List ℕ) : Type 0 where
-  pub graded : {p : M.Plan} {g : ℕ} {old : List ℤ} {before : List ℕ} → InMemory p h held → y ≡ suc g →
-      Stage p g 0 old d before levels → Stage p y 0 old d' before levels'
+pub record Graded (p : M.Plan) (y : ℕ) (d d' : List ℤ) (levels levels' : List ℕ) : Type 0 where
+  pub graded : {g : ℕ} {old : List ℤ} {before : List ℕ} → y ≡ suc g → Stage p g 0 old d before levels → Stage p y 0 old d' before levels'
 
 -- ---- before the climb every wish is at the least level, which is part of the plan
 
-pub record RecordBegun (x : Record) (w : ℕ) (before after : List ℕ) (r : ℕ) : Type 0 where
-  pub rule : x.count ≡ 0 → (after ≡ before) × (r ≡ w)
-  pub wish : 0 < x.count → (after ≡ set before w least_level) × (r ≡ w + 1)
-
-pub record GradesBegun (h : Plan) (before after : List ℕ) (r : ℕ) : Type 0 where
-  pub count : {p : M.Plan} → Holds p h → WithoutFault p → r ≡ wishes p
-  pub written : {p : M.Plan} → Holds p h → WithoutFault p → after ≡ over (replicate (wishes p) least_level) before
+pub record GradesBegun (p : M.Plan) (before after : List ℕ) (r : ℕ) : Type 0 where
+  pub faultless : WithoutFault p
+  pub count : r ≡ wishes p
+  pub written : after ≡ over (replicate (wishes p) least_level) before
 
 -- ---- all grades
 
-pub record ToClimb (h : Plan) (held : List ℕ) (d : List ℤ) (levels : List ℕ) : Type 0 where
-  pub plan : M.Plan
-  pub ready : Ready plan h held d
+pub record ToClimb (p : M.Plan) (d : Matrix) (levels : List ℕ) : Type 0 where
+  pub ready : Ready p d
   pub room : most_records ≤ length levels

@@ -9,6 +9,8 @@ use lib.Dec.{eqb, leb}
 use lib.ListN.{length, drop, length-map, length-drop}
 use lib.Seq.{slice, sets}
 use lib.IntN.{ℤ, nat_abs}
+use Rattle.std.specs.Prelude.{Result, Ok}
+use Rattle.scope.specs.declared.Fault.{Fault}
 use Rattle.meaning.specs.Plan as M
 use Rattle.meaning.specs.Plan.{most_events, most_levels_together}
 use Rattle.meaning.specs.Numbers.{wrong_form_number, too_many_number}
@@ -23,7 +25,7 @@ use Rattle.fields.specs.Fields.{Numbered}
 use Rattle.line.specs.Lines.{Says, Counts, Room, is_wish_word, Stored}
 use Rattle.faults.specs.Faults.{no_fault, unless_met, first_fault, head_fault, has_room, record_fault, entry_fault}
 use Rattle.line.specs.Effects.{level_of, span_of, wish_span, row_from}
-use Rattle.line.specs.Effects.{is_head, is_rule, is_wish, events_effect, rule_effect, wish_effect, wish_taken}
+use Rattle.line.specs.Effects.{is_head, is_rule, is_wish, Given, EventsEffect, RuleEffect, WishTaken}
 use Rattle.faults.proofs.Firsts.{met, only, head_ranges, ranged, low_end, levelled, limits}
 use Rattle.line.proofs.Wishes.{stored_slice, levels_as, levels_same, wish_row}
 use Rattle.line.proofs.Judges as J
@@ -49,10 +51,11 @@ module _ (l : Line) (vs : List ℤ) (n : Numbered vs l) where
       (J.first_step l.number (eqb l.count 2) p (events_line head_n head_h) (head_fault head_n head_h) headed refl
       (J.head_first head_n head_h))
 
-  pub events_says : (s : SoFar) (area : List ℕ) → Says l.number (events_form vs) s.events s.records s.levels area area (events_effect l)
-  unfolding events_effect
+  pub events_says : (s : SoFar) (area : List ℕ) (r : Result Effect Fault) → EventsEffect l r
+      → Says l.number (events_form vs) s.events s.records s.levels area area r
+  unfolding EventsEffect
   events_says s area =
-      J.says_gives l.number (events_form vs) s.events s.records s.levels area area events_fault (Head (nat_abs head_n) (nat_abs head_h)) (λ _. headed)
+      J.says_given l.number (events_form vs) s.events s.records s.levels area area events_fault (Head (nat_abs head_n) (nat_abs head_h)) (λ _. headed)
       (λ p _. events_step p) (λ i _. refl)
       (λ z.
       let t = met (is_head l) wrong_form_number (head_fault head_n head_h ∷ []) (omega arith) z in
@@ -81,10 +84,11 @@ module _ (l : Line) (vs : List ℤ) (n : Numbered vs l) (s : SoFar) (room : Room
       (J.later_step l.number (eqb l.count 4) p (rule_line r.a r.b r.lo r.hi) (entry_fault s r []) (with_record p rule_entry) refl
       (λ _. J.rule_later p s k r room.levels))
 
-  pub rule_says : (area : List ℕ) → Says l.number (rule_form vs) s.events s.records s.levels area area (rule_effect l s)
-  unfolding rule_effect
+  pub rule_says : (area : List ℕ) (r : Result Effect Fault) → RuleEffect l s r
+      → Says l.number (rule_form vs) s.events s.records s.levels area area r
+  unfolding RuleEffect
   rule_says area =
-      J.says_gives l.number (rule_form vs) s.events s.records s.levels area area rule_fault (Entry (row_from (span_of l.fields) s.levels 0))
+      J.says_given l.number (rule_form vs) s.events s.records s.levels area area rule_fault (Entry (row_from (span_of l.fields) s.levels 0))
       (λ p. with_record p rule_entry) rule_step (λ i _. refl)
       (λ z.
       let t = met (is_rule l) wrong_form_number (entry_fault s (span_of l.fields) [] ∷ []) (omega arith) z in
@@ -123,8 +127,21 @@ module _ (vs : List ℤ) (l : Line) (n : Numbered vs l) (s : SoFar) (before afte
   levels_many : length levels ≡ m
   levels_many = length-map ls level_of ∙ many
 
-  abbrev Wish : Effect → Type 0
-  Wish e = Says l.number (wish_form vs) s.events s.records s.levels before after e
+  abbrev Wish : Result Effect Fault → Type 0
+  Wish r = Says l.number (wish_form vs) s.events s.records s.levels before after r
+
+  -- the fault that is found in the area, and what an answer gives where the first fault is k
+  abbrev found : ℕ
+  found = record_fault s.events span (slice s.levels (s.levels + m) after)
+
+  abbrev Answer : ℕ → Result Effect Fault → Type 0
+  Answer k r = Given k (Entry (row_from span s.levels m)) r
+
+  says : (k : ℕ) → ((p : M.Plan) → Counts p s.events s.records s.levels → line_step l.number p (wish_form vs) ≡ J.step_of k (with_record p wish_entry))
+      → (k ≡ no_fault → Wish (Ok (Entry (row_from span s.levels m)))) → (r : Result Effect Fault) → Answer k r → Wish r
+  says k step =
+      J.says_given l.number (wish_form vs) s.events s.records s.levels before after k (Entry (row_from span s.levels m)) (λ p. with_record p wish_entry)
+      step a.above
 
   wish_step : (p : M.Plan) → Counts p s.events s.records s.levels
       → line_step l.number p (wish_form vs)
@@ -148,7 +165,7 @@ module _ (vs : List ℤ) (l : Line) (n : Numbered vs l) (s : SoFar) (before afte
         let f = record_fault s.events span levels in
         wish_step p k ∙ rw (formed, levels_many, room, only f, only f)
 
-    entered : record_fault s.events span levels ≡ no_fault → Wish (Entry (row_from span s.levels m))
+    entered : record_fault s.events span levels ≡ no_fault → Wish (Ok (Entry (row_from span s.levels m)))
     entered z =
         let good = levels_same ls (sym (levels_as ls) ∙ levelled s.events span levels z) in
         let end = low_end s.events span (ranged s.events span levels z) in
@@ -163,18 +180,17 @@ module _ (vs : List ℤ) (l : Line) (n : Numbered vs l) (s : SoFar) (before afte
         }
 
     -- the levels that are tested are those of the line
-    levels_says : most_levels_together ≤ length after → Wish (wish_effect l s (slice s.levels (s.levels + m) after))
-    unfolding wish_effect
+    levels_says : most_levels_together ≤ length after → (r : Result Effect Fault) → Answer found r → Wish r
     levels_says long =
         let back = stored_slice before levels after s.levels m stored levels_many (omega (arith, fits, long, a.long)) in
-        rw back
-        (J.says_gives l.number (wish_form vs) s.events s.records s.levels before after (record_fault s.events span levels)
-        (Entry (row_from span s.levels m)) (λ p. with_record p wish_entry) tested a.above entered)
+        rw back (says (record_fault s.events span levels) tested entered)
 
-  pub wish_says : is_wish_word l.word ≡ true → most_levels_together ≤ length after → Wish (wish_taken l s after)
-  wish_says word long = go (is_wish l) (has_room s m) refl refl
+  pub wish_says : is_wish_word l.word ≡ true → most_levels_together ≤ length after → (r : Result Effect Fault) → WishTaken l s after r → Wish r
+  unfolding WishTaken
+  wish_says word long r = go (is_wish l) (has_room s m) refl refl
     where
-      go : (x y : Bool) → is_wish l ≡ x → has_room s m ≡ y → Wish (wish_taken l s after)
-      go false y q r = rw q (record { some = omega arith; step = λ p k. wish_step p k ∙ rw q; above = a.above })
-      go true false q r = rw (q, r) (record { some = omega arith; step = λ p k. wish_step p k ∙ rw (q, levels_many, r); above = a.above })
-      go true true q r = rw (q, r) (levels_says q r word long)
+      go : (x y : Bool) → is_wish l ≡ x → has_room s m ≡ y
+          → Answer (first_fault (unless_met x wrong_form_number ∷ unless_met y too_many_number ∷ found ∷ [])) r → Wish r
+      go false y q t = says wrong_form_number (λ p k. wish_step p k ∙ rw q) (λ z. absurd (omega arith)) r
+      go true false q t = says too_many_number (λ p k. wish_step p k ∙ rw (q, levels_many, t)) (λ z. absurd (omega arith)) r
+      go true true q t = rw (only found) (levels_says q t word long r)

@@ -1,5 +1,5 @@
 -- What a line does to the plan read so far, from what its tests give: the faults by the tests in their order are those of `line_step`.
-use mathlib.Core.Path.{◌≡◌, refl}
+use mathlib.Core.Path.{◌≡◌, refl, ◌∙◌}
 use mathlib.Core.Bool.{Bool, true, false, cond, ◌&&◌, not}
 use mathlib.Core.List.{List, [], ◌∷◌, map}
 use Prim.Native.Nat.{ℕ, zero, suc, ◌+◌, ◌≤◌}
@@ -9,6 +9,9 @@ use lib.Dec.{eqb, ltb, leb}
 use lib.ListN.{length, get_or, length-map}
 use lib.IntN.{ℤ, pos, nat_abs}
 use lib.Signed.{le_z}
+use Rattle.std.specs.Prelude.{Result, Ok, Err}
+use Rattle.scope.specs.declared.Fault.{Fault}
+use Rattle.scope.specs.Faults.{number}
 use Rattle.meaning.specs.Plan as M
 use Rattle.meaning.specs.Plan.{most_events, most_horizon, most_records, most_levels, most_levels_together}
 use Rattle.meaning.specs.Peak.{peaked}
@@ -18,10 +21,10 @@ use Rattle.meaning.specs.Numbers.{wrong_form_number, too_many_number, out_of_ran
 use Rattle.faults.specs.declared.SoFar.{SoFar}
 use Rattle.faults.specs.declared.Span.{Span}
 use Rattle.line.specs.declared.Effect.{Effect}
-use Rattle.line.specs.declared.Effect.TheVariants.{Fault}
 use Rattle.line.specs.Lines.{Says, Counts}
 use Rattle.faults.specs.Faults.{no_fault, unless_met, first_fault, head_fault, has_room, allows_any, record_fault, entry_fault}
-use Rattle.line.specs.Effects.{level_of, wish_span, gives}
+use Rattle.line.specs.Effects.{level_of, wish_span, Given}
+use Rattle.scope.proofs.Numbers.{not_zero}
 use Rattle.faults.proofs.Firsts.{only, flat, six}
 use Rattle.faults.proofs.Allowed.{allows_wish}
 use Rattle.line.proofs.Wishes.{range_last, order_last, levels_as, levels_same}
@@ -35,10 +38,6 @@ step_wrong line p = go (eqb line 1)
     go false = refl
 
 -- ---- a fault as a step
-
-pub given_fault : (k : ℕ) (e : Effect) → (k ≡ no_fault → ⊥) → Fault k ≡ gives k e
-given_fault zero e n = absurd (n refl)
-given_fault (suc k) e n = refl
 
 -- the fault that was found in the numbers q is that of the numbers r which they are
 pub found_in : (n : ℕ) (ls : List ℕ) {q r : Span} {k : ℕ} → q ≡ r → k ≡ record_fault n q ls → record_fault n r ls ≡ k
@@ -156,10 +155,14 @@ module _ (line : ℕ) (formed : Bool) (p : M.Plan) (f : Form) (k : ℕ) (q : M.P
 
 -- ---- what the answer says: a fault, or else what the record or the first line is
 
-pub says_gives : (line : ℕ) (f : Form) (n count used : ℕ) (before after : List ℕ) (k : ℕ) (e : Effect) (next : M.Plan → M.Plan)
+fault_step : (f : Fault) (q : M.Plan) → step_of (number f) q ≡ fault (number f)
+fault_step f q = rw (not_zero f).1
+
+pub says_given : (line : ℕ) (f : Form) (n count used : ℕ) (before after : List ℕ) (k : ℕ) (e : Effect) (next : M.Plan → M.Plan)
     → ((p : M.Plan) → Counts p n count used → line_step line p f ≡ step_of k (next p))
     → ((i : ℕ) → most_levels_together ≤ i → get_or after i 0 ≡ get_or before i 0)
-    → (k ≡ no_fault → Says line f n count used before after e)
-    → Says line f n count used before after (gives k e)
-says_gives line f n count used before after zero e next step above whole = whole refl
-says_gives line f n count used before after (suc k) e next step above whole = record { some = omega arith; step = step; above = above }
+    → (k ≡ no_fault → Says line f n count used before after (Ok e))
+    → (r : Result Effect Fault) → Given k e r → Says line f n count used before after r
+says_given line f n count used before after k e next step above whole (Ok x) g = rw g.1 (whole g.0)
+says_given line f n count used before after k e next step above whole (Err x) g =
+    record { some = omega (arith, (not_zero x).1); step = λ p c. step p c ∙ rw g (fault_step x (next p)); above = above }

@@ -1,16 +1,18 @@
 -- What a line gives by its form and the faults of its record.
-use Rattle.std.specs.Prelude.{◌≡◌, Bool, true, cond, ◌&&◌, not, List, [], ◌∷◌, ℕ, zero, suc, ◌+◌, ◌-◌, ◌≤◌, eqb, leb, ℤ, pos, nat_abs, ◌+ℤ◌}
+use Rattle.std.specs.Prelude.{◌≡◌, Bool, true, cond, ◌&&◌, not, List, [], ◌∷◌, ℕ, ◌+◌, ◌-◌, ◌≤◌, eqb, leb, ℤ, pos, nat_abs, ◌+ℤ◌, Result, Ok, Err}
 use Rattle.std.proofs.Math.Seq.{slice}
+use Rattle.scope.specs.declared.Fault.{Fault}
+use Rattle.scope.specs.Faults.{number}
 use Rattle.meaning.specs.Plan.{top_level}
 use Rattle.meaning.specs.Numbers.{wrong_form_number, too_many_number}
 use Rattle.meaning.specs.Reading.{item, is_end, is_level}
 use Rattle.plan.specs.declared.Record.{Record}
 use Rattle.faults.specs.declared.SoFar.{SoFar}
 use Rattle.faults.specs.declared.Span.{Span}
-use Rattle.faults.specs.Faults.{unless_met, first_fault, head_fault, has_room, record_fault, entry_fault}
+use Rattle.faults.specs.Faults.{no_fault, unless_met, first_fault, head_fault, has_room, record_fault, entry_fault}
 use Rattle.fields.specs.declared.Line.{Line}
 use Rattle.line.specs.declared.Effect.{Effect}
-use Rattle.line.specs.declared.Effect.TheVariants.{Fault, Head, Entry}
+use Rattle.line.specs.declared.Effect.TheVariants.{Head, Entry}
 
 -- ---- levels as they are stored
 
@@ -49,28 +51,28 @@ is_wish l = not (eqb l.number 1) && leb 4 l.count
 
 -- ---- what a line gives
 
--- the fault where there is one
-abbrev pub gives : ℕ → Effect → Effect
-gives zero e = e
-gives (suc k) e = Fault (suc k)
+-- the answer r: e where there is no fault, and else the fault whose number is k
+abbrev pub Given : ℕ → Effect → Result Effect Fault → Type 0
+Given k e (Ok x) = (k ≡ no_fault) × (x ≡ e)
+Given k e (Err f) = k ≡ number f
 
-unfoldable pub events_effect : Line → Effect
-events_effect l =
+unfoldable pub EventsEffect : Line → Result Effect Fault → Type 0
+EventsEffect l r =
     let n = item l.fields 0 in
     let h = item l.fields 1 in
-    gives (first_fault (unless_met (is_head l) wrong_form_number ∷ head_fault n h ∷ [])) (Head (nat_abs n) (nat_abs h))
+    Given (first_fault (unless_met (is_head l) wrong_form_number ∷ head_fault n h ∷ [])) (Head (nat_abs n) (nat_abs h)) r
 
-unfoldable pub rule_effect : Line → SoFar → Effect
-rule_effect l s =
-    let r = span_of l.fields in
-    gives (first_fault (unless_met (is_rule l) wrong_form_number ∷ entry_fault s r [] ∷ [])) (Entry (row_from r s.levels 0))
+unfoldable pub RuleEffect : Line → SoFar → Result Effect Fault → Type 0
+RuleEffect l s r =
+    let x = span_of l.fields in
+    Given (first_fault (unless_met (is_rule l) wrong_form_number ∷ entry_fault s x [] ∷ [])) (Entry (row_from x s.levels 0)) r
 
 -- a wish whose levels ls are stored
-unfoldable pub wish_effect : Line → SoFar → List ℕ → Effect
-wish_effect l s ls =
+unfoldable pub WishEffect : Line → SoFar → List ℕ → Result Effect Fault → Type 0
+WishEffect l s ls r =
     let m = l.count - 3 in
-    let r = wish_span l.fields m in
-    gives (record_fault s.events r ls) (Entry (row_from r s.levels m))
+    let x = wish_span l.fields m in
+    Given (record_fault s.events x ls) (Entry (row_from x s.levels m)) r
 
 -- the line has the numbers of a wish, and there is room for it
 pub record Roomy (l : Line) (s : SoFar) : Type 0 where
@@ -78,7 +80,9 @@ pub record Roomy (l : Line) (s : SoFar) : Type 0 where
   pub room : has_room s (l.count - 3) ≡ true
 
 -- a line `wish`: its form, the room for it, and then what its levels give, which stand in the area behind those of the others
-abbrev pub wish_taken : Line → SoFar → List ℕ → Effect
-wish_taken l s area =
+unfoldable pub WishTaken : Line → SoFar → List ℕ → Result Effect Fault → Type 0
+WishTaken l s area r =
     let m = l.count - 3 in
-    cond (is_wish l) (cond (has_room s m) (wish_effect l s (slice s.levels (s.levels + m) area)) (Fault too_many_number)) (Fault wrong_form_number)
+    let x = wish_span l.fields m in
+    let f = record_fault s.events x (slice s.levels (s.levels + m) area) in
+    Given (first_fault (unless_met (is_wish l) wrong_form_number ∷ unless_met (has_room s m) too_many_number ∷ f ∷ [])) (Entry (row_from x s.levels m)) r

@@ -1,6 +1,8 @@
 -- What one line of a text gives: its numbers, and what it does to the plan read so far.
-use Rattle.std.specs.Prelude.{◌≡◌, Bool, true, false, cond, ◌&&◌, List, [], map, ℕ, ◌+◌, ◌-◌, ◌≤◌, ◌<◌, leb, ltb, length, get_or, set, drop, ℤ}
+use Rattle.std.specs.Prelude.{◌≡◌, Bool, true, false, cond, ◌&&◌, List, [], map, ℕ, ◌+◌, ◌-◌, ◌≤◌, ◌<◌, leb, ltb, length, get_or, set, drop, ℤ, Result, Ok, Err}
 use Rattle.std.proofs.lemmas.List.Edits.{sets}
+use Rattle.scope.specs.declared.Fault.{Fault}
+use Rattle.scope.specs.Faults.{number}
 use Rattle.meaning.specs.Plan as M
 use Rattle.meaning.specs.Plan.{most_events, most_records, most_levels_together}
 use Rattle.meaning.specs.Reading.{Form, wrong, events_form, rule_form, wish_form, taken, fault, line_step, with_record, levels_together}
@@ -12,7 +14,7 @@ use Rattle.faults.specs.declared.SoFar.{SoFar}
 use Rattle.fields.specs.declared.Line.{Line}
 use Rattle.fields.specs.Fields.{Numbered}
 use Rattle.line.specs.declared.Effect.{Effect}
-use Rattle.line.specs.declared.Effect.TheVariants.{Fault, Head, Entry}
+use Rattle.line.specs.declared.Effect.TheVariants.{Head, Entry}
 use Rattle.line.specs.Effects.{level_of}
 
 -- ---- the form of a line by its first field and its numbers
@@ -85,19 +87,19 @@ pub record Entered (line : ℕ) (f : Form) (n count used : ℕ) (before after : 
   pub stored : after ≡ sets before used (levels_in entry)
 
 -- what the line gives, by the answer's case
-abbrev pub Says : ℕ → Form → ℕ → ℕ → ℕ → List ℕ → List ℕ → Effect → Type 0
-Says line f n count used before after (Fault k) = Faulted line f n count used before after k
-Says line f n count used before after (Head m h) = Headed line f before after m h
-Says line f n count used before after (Entry r) = Entered line f n count used before after r
+abbrev pub Says : ℕ → Form → ℕ → ℕ → ℕ → List ℕ → List ℕ → Result Effect Fault → Type 0
+Says line f n count used before after (Err e) = Faulted line f n count used before after (number e)
+Says line f n count used before after (Ok (Head m h)) = Headed line f before after m h
+Says line f n count used before after (Ok (Entry r)) = Entered line f n count used before after r
 
 pub record Room (s : SoFar) : Type 0 where
   pub events : s.events ≤ most_events
   pub levels : s.levels ≤ most_levels_together
 
 -- what a line gives that has the numbers vs
-abbrev pub Gives : List ℤ → Line → SoFar → List ℕ → List ℕ → Effect → Type 0
+abbrev pub Gives : List ℤ → Line → SoFar → List ℕ → List ℕ → Result Effect Fault → Type 0
 Gives vs l s before after r = Says l.number (word_form l.word vs) s.events s.records s.levels before after r
 
 -- whatever its numbers are, and the area when it began
-abbrev pub Judged : Line → SoFar → List ℕ → Effect → Type 0
+abbrev pub Judged : Line → SoFar → List ℕ → Result Effect Fault → Type 0
 Judged l s area r = (vs : List ℤ) (before : List ℕ) → Whole vs l s before area → Gives vs l s before area r

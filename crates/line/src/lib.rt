@@ -7,25 +7,22 @@ ghost use Rattle.meaning.specs.Plan.{most_levels, most_levels_together, most_byt
 ghost use Rattle.faults.specs.Faults.{no_fault, Fitting, head_fault};
 ghost use Rattle.line.specs.declared.Effect.TheVariants.{Head};
 ghost use Rattle.line.specs.Effects.{level_of, last_from, span_of, wish_span, row_from, is_head, is_rule, is_wish, Roomy};
-ghost use Rattle.line.specs.Effects.{events_effect, rule_effect, wish_effect, wish_taken};
+ghost use Rattle.line.specs.Effects.{EventsEffect, RuleEffect, WishEffect, WishTaken};
 ghost use Rattle.line.specs.Lines.{Room, is_level_next, with_level, Whole, Judged};
 
-use faults::{NO_FAULT, SoFar, Span};
+use faults::{SoFar, Span};
 use fields::Line;
 use plan::Record;
-use scope::{MOST_LEVELS_TOGETHER, TOO_MANY, WRONG_FORM};
+use scope::{Fault, MOST_LEVELS_TOGETHER, TOP_LEVEL};
 use text::Word;
-
-// A field is a signed number, so this limit is met as such.
-const TOP_LEVEL: i32 = scope::TOP_LEVEL as i32;
+use widths::{Number, Width};
 
 // How a number is stored that is no level.
-const NO_LEVEL: u8 = scope::TOP_LEVEL + 1;
+const NO_LEVEL: u8 = TOP_LEVEL + 1;
 
-// What a line gives: a fault, the number of events and the horizon, or one record more.
+// What a line gives that has no fault: the number of events and the horizon, or one record more.
 #[derive(Clone, Copy)]
 pub enum Effect {
-    Fault(u8),
     Head(usize, u32),
     Entry(Record),
 }
@@ -36,8 +33,8 @@ pub enum Effect {
 fn level_of(v: i32) -> u8
     ensures { result ≡ level_of v }
 {
-    if faults::is_between(0, TOP_LEVEL, v) {
-        widths::to_u8(widths::from_i32(v))
+    if 0 <= v && v <= i32::from(TOP_LEVEL) {
+        u8::of(v.number())
     } else {
         NO_LEVEL
     }
@@ -47,13 +44,7 @@ fn level_of(v: i32) -> u8
 fn is_level_next(line: Line) -> bool
     ensures { result ≡ is_level_next line }
 {
-    let word = line.word;
-    match word {
-        Word::Events => false,
-        Word::Rule => false,
-        Word::Wish => 3 <= line.count,
-        Word::Other => false,
-    }
+    matches!(line.word, Word::Wish) && 3 <= line.count
 }
 
 // The next number of the line is v: a level is stored behind those of the wishes before. Where there is no room for it nothing is stored, since `take`
@@ -75,15 +66,10 @@ pub fn store_level(line: Line, used: usize, v: i32, levels: &mut [u8])
 
 // The first four numbers of a line, as the numbers of a rule.
 fn span_of(line: Line) -> Span
-    requires { length line.fields ≡ 4 }
     ensures { result ≡ span_of line.fields }
 {
-    Span {
-        a: line.fields[0],
-        b: line.fields[1],
-        lo: line.fields[2],
-        hi: line.fields[3],
-    }
+    let [a, b, lo, hi] = line.fields;
+    Span { a, b, lo, hi }
 }
 
 // The distance of the last of m levels; where lo is out of range no sum is made, since that alone is the fault.
@@ -92,7 +78,7 @@ fn last_of(lo: i32, m: usize) -> i32
     ensures { result ≡ last_from lo m }
 {
     if faults::is_end(lo) {
-        ticks::plus(lo, widths::to_i32(m - 1))
+        lo + i32::of(m - 1)
     } else {
         lo
     }
@@ -100,12 +86,14 @@ fn last_of(lo: i32, m: usize) -> i32
 
 // The first three numbers of a line, as those of a wish with m levels.
 fn wish_span(line: Line, m: usize) -> Span
-    requires { (length line.fields ≡ 4) × (1 ≤ m) × (m ≤ most_levels) }
+    requires { (1 ≤ m) × (m ≤ most_levels) }
     ensures { result ≡ wish_span line.fields m }
 {
-    let mut span = span_of(line);
-    span.hi = last_of(span.lo, m);
-    span
+    let span = span_of(line);
+    Span {
+        hi: last_of(span.lo, m),
+        ..span
+    }
 }
 
 // ---- what a line gives
@@ -116,10 +104,10 @@ fn row_of(span: Span, first: usize, count: usize) -> Record
     ensures { result ≡ row_from span first count }
 {
     Record {
-        a: widths::to_u8(widths::from_i32(span.a)),
-        b: widths::to_u8(widths::from_i32(span.b)),
-        first: widths::to_u16(first),
-        count: widths::to_u16(count),
+        a: u8::of(span.a.number()),
+        b: u8::of(span.b.number()),
+        first: u16::of(first),
+        count: u16::of(count),
         lo: span.lo,
         hi: span.hi,
     }
@@ -129,30 +117,21 @@ fn row_of(span: Span, first: usize, count: usize) -> Record
 fn is_head(line: Line) -> bool
     ensures { result ≡ is_head line }
 {
-    if line.number != 1 {
-        return false;
-    }
-    line.count == 2
+    line.number == 1 && line.count == 2
 }
 
 // The form of a later line `rule`: four numbers.
 fn is_rule(line: Line) -> bool
     ensures { result ≡ is_rule line }
 {
-    if line.number == 1 {
-        return false;
-    }
-    line.count == 4
+    line.number != 1 && line.count == 4
 }
 
 // The form of a later line `wish`: three numbers and one or more levels.
 fn is_wish(line: Line) -> bool
     ensures { result ≡ is_wish line }
 {
-    if line.number == 1 {
-        return false;
-    }
-    4 <= line.count
+    line.number != 1 && 4 <= line.count
 }
 
 // The number of events and the horizon, both in range.
@@ -160,84 +139,72 @@ fn head_of(n: i32, h: i32) -> Effect
     requires { head_fault n h ≡ no_fault }
     ensures { result ≡ Head (nat_abs n) (nat_abs h) }
 {
-    Effect::Head(widths::from_i32(n), widths::to_u32(widths::from_i32(h)))
+    Effect::Head(n.number(), u32::of(h.number()))
 }
 
 // The line `events`.
-fn take_events(line: Line) -> Effect
-    requires { length line.fields ≡ 4 }
-    ensures { result ≡ events_effect line }
+fn take_events(line: Line) -> Result<Effect, Fault>
+    ensures { EventsEffect line result }
 {
     if !is_head(line) {
-        return Effect::Fault(WRONG_FORM);
+        return Err(Fault::WrongForm);
     }
-    let n = line.fields[0];
-    let h = line.fields[1];
-    let fault = faults::head_fault(n, h);
-    if fault != NO_FAULT {
-        return Effect::Fault(fault);
-    }
-    head_of(n, h)
+    let [n, h, ..] = line.fields;
+    faults::head_fault(n, h)?;
+    Ok(head_of(n, h))
 }
 
 // A line `rule`.
-fn take_rule(line: Line, plan: SoFar) -> Effect
-    requires { (length line.fields ≡ 4) × Room plan }
-    ensures { result ≡ rule_effect line plan }
+fn take_rule(line: Line, plan: SoFar) -> Result<Effect, Fault>
+    requires { Room plan }
+    ensures { RuleEffect line plan result }
 {
     if !is_rule(line) {
-        return Effect::Fault(WRONG_FORM);
+        return Err(Fault::WrongForm);
     }
     if !faults::has_room(plan, 0) {
-        return Effect::Fault(TOO_MANY);
+        return Err(Fault::TooMany);
     }
     let span = span_of(line);
-    let fault = faults::rule_fault(plan.events, span);
-    if fault != NO_FAULT {
-        return Effect::Fault(fault);
-    }
-    Effect::Entry(row_of(span, plan.levels, 0))
+    faults::rule_fault(plan.events, span)?;
+    Ok(Effect::Entry(row_of(span, plan.levels, 0)))
 }
 
 // What a wish gives whose levels are stored behind those of the others.
-fn wish_effect(line: Line, plan: SoFar, levels: &[u8]) -> Effect
-    requires { (length line.fields ≡ 4) × Room plan × Roomy line plan × (most_levels_together ≤ length levels.now) }
-    ensures { result ≡ wish_effect line plan (slice plan.levels (plan.levels + (line.count - 3)) levels.now) }
+fn wish_effect(line: Line, plan: SoFar, levels: &[u8]) -> Result<Effect, Fault>
+    requires { Room plan × Roomy line plan × (most_levels_together ≤ length levels.now) }
+    ensures { WishEffect line plan (slice plan.levels (plan.levels + (line.count - 3)) levels.now) result }
 {
     let m = line.count - 3;
     let at = plan.levels;
     let span = wish_span(line, m);
-    let fault = faults::wish_fault(plan.events, span, levels, at, at + m);
-    if fault != NO_FAULT {
-        return Effect::Fault(fault);
-    }
-    Effect::Entry(row_of(span, at, m))
+    faults::wish_fault(plan.events, span, &levels[at..at + m])?;
+    Ok(Effect::Entry(row_of(span, at, m)))
 }
 
 // A line `wish`.
-fn take_wish(line: Line, plan: SoFar, levels: &[u8]) -> Effect
-    requires { (length line.fields ≡ 4) × Room plan × (most_levels_together ≤ length levels.now) }
-    ensures { result ≡ wish_taken line plan levels.now }
+fn take_wish(line: Line, plan: SoFar, levels: &[u8]) -> Result<Effect, Fault>
+    requires { Room plan × (most_levels_together ≤ length levels.now) }
+    ensures { WishTaken line plan levels.now result }
 {
     if !is_wish(line) {
-        return Effect::Fault(WRONG_FORM);
+        return Err(Fault::WrongForm);
     }
     if !faults::has_room(plan, line.count - 3) {
-        return Effect::Fault(TOO_MANY);
+        return Err(Fault::TooMany);
     }
     wish_effect(line, plan, levels)
 }
 
 // What a line gives whose numbers are all read, and the levels of a wish stored: the tests of section 3 and of T-04 in their order.
-pub fn take(line: Line, plan: SoFar, levels: &[u8]) -> Effect
+pub fn take(line: Line, plan: SoFar, levels: &[u8]) -> Result<Effect, Fault>
     requires { ((vs : List ℤ) × (before : List ℕ) × Whole vs line plan before levels.now) × Room plan × (most_levels_together ≤ length levels.now) }
     ensures { Judged line plan levels.now result }
 {
-    let word = line.word;
-    match word {
+    match line.word {
         Word::Events => take_events(line),
         Word::Rule => take_rule(line, plan),
         Word::Wish => take_wish(line, plan, levels),
-        Word::Other => Effect::Fault(WRONG_FORM),
+        Word::Other => Err(Fault::WrongForm),
     }
 }

@@ -1,14 +1,15 @@
 -- What a plan in memory gives to those who use it: each row of the struct is its record of the plan, and the record's levels stand in
 -- the area where the row says.
 use mathlib.Core.Path.{◌≡◌, refl, ap, ◌∙◌}
-use mathlib.Core.Bool.{false, cond}
-use mathlib.Core.List.{List, [], ◌∷◌}
+use mathlib.Core.Bool.{false}
+use mathlib.Core.List.{List, [], ◌∷◌, map}
 use Prim.Native.Nat.{ℕ, zero, suc, ◌+◌, ◌≤◌, ◌<◌}
 use native.Mathlib.Decide.{dec_lt}
 use native.Mathlib.Omega.{arith}
 use borrow.Author.Tests.{ne_eqb}
 use lib.Dec.{eqb}
 use lib.ListN.{length, get_or, take, get_or-append, get_or-eq_default}
+use Rattle.std.proofs.lemmas.List.{get_or-map, get_or-take, length-take-le, length-map}
 use lib.Seq.{slice, length-slice, get_or-append-add, ext_get_or}
 use Rattle.meaning.specs.Plan as M
 use Rattle.meaning.specs.Plan.{most_levels_together, nothing, record_at}
@@ -17,7 +18,7 @@ use Rattle.meaning.proofs.Slices.{slice_at}
 use Rattle.meaning.specs.Faultless.{Levelled}
 use Rattle.plan.specs.declared.Record.{Record}
 use Rattle.plan.specs.declared.Plan.{Plan}
-use Rattle.plan.specs.Held.{levels_in, row_of, rows_of, levels_at, flat, blank, Holds, InMemory}
+use Rattle.plan.specs.Held.{levels_in, row_of, rows_of, levels_at, flat, blank, record_of, recalled, Holds, InMemory}
 use Rattle.plan.proofs.Growth.{together_cons}
 
 abbrev pub row_at : Plan → ℕ → Record
@@ -68,10 +69,6 @@ pub record RowHeld (x : Record) (m : M.Record) (area : List ℕ) : Type 0 where
   pub row : x ≡ row_of x.first m
   pub levels : levels_at x area ≡ levels_in m
   pub inside : x.first + x.count ≤ length area
-
--- a record made again from its row and the area of all levels
-abbrev pub record_of : List ℕ → Record → M.Record
-record_of area x = cond (eqb x.count 0) (M.rule x.a x.b x.lo x.hi) (M.wish x.a x.b x.lo (levels_at x area))
 
 again : (area : List ℕ) (n : ℕ) (m : M.Record) → Levelled m → levels_at (row_of n m) area ≡ levels_in m → record_of area (row_of n m) ≡ m
 again area n (M.rule a b lo hi) g e = refl
@@ -126,3 +123,22 @@ module _ {p : M.Plan} {h : Plan} {area : List ℕ} (o : InMemory p h area) (k : 
           let x = row_held l in
           rw x.row (again area (row_at h k).first (record_at p k) (o.faultless.each k l).levelled (rw x.row at x.levels))
       go (no n) = rw (row_blank (omega arith), get_or-eq_default p.records nothing {n = k} (omega arith))
+
+-- ---- the whole plan is made again, and is a plan in memory as it was
+
+module _ {p : M.Plan} {h : Plan} {area : List ℕ} (o : InMemory p h area) where
+  records_again : map (record_of area) (take h.count h.records) ≡ p.records
+  records_again =
+      let count : h.count ≤ length h.records = omega (arith, o.holds.count, o.holds.size, o.faultless.few) in
+      let first : length (take h.count h.records) ≡ length p.records = length-take-le h.count h.records count ∙ o.holds.count in
+      ext_get_or nothing _ p.records (length-map (take h.count h.records) (record_of area) ∙ first) (λ i l.
+      let k : i < length (take h.count h.records) = omega (arith, l, length-map (take h.count h.records) (record_of area)) in
+      get_or-map (record_of area) (take h.count h.records) i blank nothing k
+      ∙ ap (record_of area) (get_or-take h.count h.records i blank (omega (arith, k, first, o.holds.count)))
+      ∙ record_at_lem o i)
+
+  pub recalled_is : recalled h area ≡ p
+  recalled_is = rw (o.holds.events, o.holds.horizon, records_again) refl
+
+  pub loaded : InMemory (recalled h area) h area
+  loaded = rw recalled_is o

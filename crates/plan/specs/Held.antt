@@ -1,5 +1,5 @@
 -- How a plan stands in memory: a struct, and the levels of all its wishes in one lent area.
-use Rattle.std.specs.Prelude.{◌≡◌, List, [], ◌∷◌, ◌++◌, ℕ, ◌+◌, ◌≤◌, ◌<◌, length, get_or, pos}
+use Rattle.std.specs.Prelude.{◌≡◌, cond, List, [], ◌∷◌, ◌++◌, map, take, ℕ, ◌+◌, ◌≤◌, ◌<◌, eqb, length, get_or, pos}
 use Rattle.std.proofs.Math.Seq.{slice}
 use Rattle.meaning.specs.Plan as M
 use Rattle.meaning.specs.Plan.{most_records, most_levels_together}
@@ -33,6 +33,10 @@ abbrev pub flat : List M.Record → List ℕ
 flat [] = []
 flat (r ∷ rs) = levels_in r ++ flat rs
 
+-- a record made again from its row and the area of all levels
+abbrev pub record_of : List ℕ → Record → M.Record
+record_of area x = cond (eqb x.count 0) (M.rule x.a x.b x.lo x.hi) (M.wish x.a x.b x.lo (levels_at x area))
+
 -- what stands past the last record
 abbrev pub blank : Record
 blank = record { a = 0; b = 0; first = 0; count = 0; lo = pos 0; hi = pos 0 }
@@ -48,11 +52,9 @@ pub record Holds (p : M.Plan) (h : Plan) : Type 0 where
   pub size : length h.records ≡ most_records
   pub rows : (k : ℕ) → get_or h.records k blank ≡ get_or (rows_of 0 p.records) k blank
 
--- the struct holds a plan without fault
-pub record Planned (h : Plan) : Type 0 where
-  pub plan : M.Plan
-  pub holds : Holds plan h
-  pub faultless : WithoutFault plan
+-- the plan made again from the struct and the area of all levels
+abbrev pub recalled : Plan → List ℕ → M.Plan
+recalled h area = record { events = h.events; horizon = h.horizon; records = map (record_of area) (take h.count h.records) }
 
 -- the area has the levels of p, then zeros; past the place of the last possible level it is as before
 pub record LevelsHeld (p : M.Plan) (before after : List ℕ) : Type 0 where

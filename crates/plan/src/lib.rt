@@ -5,8 +5,10 @@ ghost use Rattle.meaning.specs.Reading.{empty};
 ghost use Rattle.plan.specs.Held.{Holds};
 
 use scope::MOST_RECORDS;
+use std::marker::Model;
 
-// A rule (count 0), or a wish, whose levels are the count ones from first on in the area of all levels.
+// A rule (count 0), or a wish, whose levels are the count ones from first on in the area of all levels. No enum of the two: `plan_field` hands C all six
+// numbers of either.
 #[derive(Clone, Copy)]
 pub struct Record {
     pub a: u8,
@@ -17,7 +19,7 @@ pub struct Record {
     pub hi: i32,
 }
 
-// The first `count` records are the plan's; its wishes have `used` levels together.
+// The first `count` records are the plan's; its wishes have `used` levels together. The room for them is fixed: there is no heap.
 #[derive(Clone, Copy)]
 pub struct Plan {
     pub events: usize,
@@ -46,4 +48,22 @@ pub fn empty_plan() -> Plan
         used: 0,
         records: [blank; MOST_RECORDS],
     }
+}
+
+// A plan without fault that was read, and the levels of its wishes in their area. Contracts see the plan of `meaning` that they are.
+#[derive(Drop)]
+pub struct Loaded<'a> {
+    pub plan: &'a Plan,
+    pub levels: &'a [u8],
+}
+
+impl<'a> Model for Loaded<'a> {
+    ghost use Rattle.meaning.specs.Plan as M;
+    ghost use Rattle.plan.specs.Held.{recalled, InMemory};
+
+    ghost Value = { M.Plan };
+
+    ghost view = { λ s. recalled s.plan.now s.levels.now };
+
+    ghost invariant = { λ s. InMemory (recalled s.plan.now s.levels.now) s.plan.now s.levels.now };
 }

@@ -5,17 +5,12 @@ use mathlib.Core.List.{List, [], ◌∷◌, ◌++◌}
 use Prim.Native.Nat.{ℕ, zero, suc, ◌+◌, ◌^◌, ◌/◌, ◌%◌, ◌≤◌, ◌<◌}
 use native.Mathlib.Numerals.{unary_clauses}
 use native.Mathlib.Omega.{arith}
-use lib.Dec.{T, ltb}
-use lib.IntN.{ℤ, pos, negsuc, nat_abs}
-use lib.Signed.{lt_z, non_neg}
-use mathlib.Core.Bool.{true≢false}
+use lib.Dec.{ltb}
 use lib.ListN.{length, length-append}
 use native.Mathlib.Decide.{dec_lt}
-use borrow.Author.Tests.{ltb-true, ltb-false, lt-ltb, le-ltb}
-use mir.Syntax.{w64}
-use mir.Val.{SFits, Fits}
+use borrow.Author.Tests.{ltb-false, lt-ltb, le-ltb}
 use Rattle.io.specs.Digits.{hex_digit_ascii, last_digits, IsDigitCount}
-use Rattle.print.specs.Written.{digits_within, decimal, decimal_z}
+use Rattle.print.specs.Written.{digits_within, decimal}
 
 -- room that is not used does not matter
 enough : (f g n : ℕ) → n < f → n < g → digits_within f n ≡ digits_within g n
@@ -66,20 +61,3 @@ decimal_most (suc k) n h = go (dec_lt n 10) (decimal_most k (n / 10) (omega arit
     go : Dec (n < 10) → length (decimal (n / 10)) ≤ suc k → length (decimal n) ≤ suc (suc k)
     go (yes l) r = rw (decimal_one n l) (omega arith)
     go (no l) r = rw (decimal_more n (omega arith)) (omega (arith, length-append (decimal (n / 10)) ((48 + n % 10) ∷ [])))
-
--- below zero, and not
-pub decimal_below : (z : ℤ) → lt_z z (pos 0) ≡ true → decimal_z z ≡ 45 ∷ decimal (nat_abs z)
-decimal_below (pos n) e = absurd (omega (arith, ltb-true n 0 e))
-decimal_below (negsuc n) e = refl
-
-pub decimal_above : (z : ℤ) → lt_z z (pos 0) ≡ false → decimal_z z ≡ decimal (nat_abs z)
-decimal_above (pos n) e = refl
-decimal_above (negsuc n) e = absurd (true≢false e)
-
-pub above_zero : (z : ℤ) → lt_z z (pos 0) ≡ false → T (non_neg z)
-above_zero (pos n) e = tt
-above_zero (negsuc n) e = absurd (true≢false e)
-
-pub whole_fits : (z : ℤ) → SFits w64 z → Fits w64 (nat_abs z)
-whole_fits (pos n) h = let k = h.sfits in record { fits = omega arith }
-whole_fits (negsuc n) h = let k = h.sfits in record { fits = omega arith }

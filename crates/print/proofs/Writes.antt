@@ -24,10 +24,6 @@ module _ {s u : List ℕ} {at m : ℕ} {x : List ℕ} (p : Wrote s u at m x) whe
     holds = q.holds ∙ ap (λ (l : List ℕ). sets l m y) p.holds ∙ sets_join s at m x y p.ends;
   }
 
--- nothing was written
-pub wrote_none : (s : List ℕ) (at : ℕ) → at ≤ length s → Wrote s s at at []
-wrote_none s at h = record { ends = omega arith; room = omega arith; holds = refl }
-
 -- the same bytes under another name
 pub wrote_as : {s u : List ℕ} {at r : ℕ} {x y : List ℕ} → x ≡ y → Wrote s u at r x → Wrote s u at r y
 wrote_as {s} {u} {at} {r} e p = subst (λ (l : List ℕ). Wrote s u at r l) e p
@@ -45,9 +41,6 @@ pub record Going (s u : List ℕ) (at next : ℕ) (whole rest : List ℕ) : Type
   pub joined : sets u next rest ≡ sets s at whole
   pub ends : next + length rest ≡ at + length whole
   pub long : length u ≡ length s
-
-pub going_start : (s : List ℕ) (at : ℕ) (whole : List ℕ) → Going s s at at whole whole
-going_start s at whole = record { joined = refl; ends = refl; long = refl }
 
 module _ {s u : List ℕ} {at m : ℕ} {whole rest : List ℕ} (g : Going s u at m whole rest) where
   -- one part more

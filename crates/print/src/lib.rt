@@ -1,73 +1,72 @@
-// Lines of words and numbers, put into a lent area: from the place `at` on; the answer is the place after.
+// Lines of words and numbers, put into a lent area.
 #![tactic(auto)]
 
-ghost use Rattle.std.specs.Prelude.{◌≡◌, ◌∷◌, ◌+◌, ◌≤◌, ◌<◌, pos, nat_abs, ◌<ℤ◌, length};
+ghost use Rattle.std.specs.Prelude.{◌∷◌};
 ghost use Rattle.meaning.specs.Reading.{tab_byte};
-ghost use Rattle.print.specs.Written.{decimal, decimal_z, Wrote};
+ghost use Rattle.print.specs.Written.{decimal, decimal_z};
+ghost use Rattle.print.specs.Sheets.{Room, Puts};
 ghost use Rattle.print.specs.Lines.{line};
 
 // The decimal digits of a 64-bit number are at most so many.
 const MOST_DIGITS: usize = 20;
 
-// The bytes of a word.
-fn put_word(out: &mut [u8], at: usize, word: &[u8]) -> usize
-    requires { at + length word.now ≤ length out.old }
-    ensures { Wrote out.old out.new at result word.now }
-{
-    let next = at + word.len();
-    out[at..next].copy_from_slice(word);
-    next
+// A lent area, and the place in it that the next byte goes to.
+#[derive(Drop)]
+pub struct Sheet<'a> {
+    pub out: &'a mut [u8],
+    pub at: usize,
 }
 
-// The decimal digits of a number.
-fn put_digits(out: &mut [u8], at: usize, n: u64) -> usize
-    requires { at + length (decimal n) ≤ length out.old }
-    ensures { Wrote out.old out.new at result (decimal n) }
-{
-    let mut digits = [0u8; MOST_DIGITS];
-    let k = io::decimal(n, &mut digits);
-    put_word(out, at, &digits[..k])
-}
-
-// How far a negative number lies below zero: the negative of the least number would not fit, that of the one above it does.
-fn magnitude(z: i64) -> u64
-    requires { z <ℤ pos 0 }
-    ensures { result ≡ nat_abs z }
-{
-    let above = z + 1;
-    widths::from_i64(-above) + 1
-}
-
-// A whole number.
-fn put_number(out: &mut [u8], at: usize, z: i64) -> usize
-    requires { at + length (decimal_z z) ≤ length out.old }
-    ensures { Wrote out.old out.new at result (decimal_z z) }
-{
-    if z < 0 {
-        let next = put_word(out, at, b"-");
-        put_digits(out, next, magnitude(z))
-    } else {
-        put_digits(out, at, widths::from_i64(z))
+impl Sheet<'_> {
+    // The bytes of a word.
+    fn word(&mut self, word: &[u8])
+        requires { Room self.old word.now }
+        ensures { Puts self.old self.new word.now }
+    {
+        let next = self.at + word.len();
+        self.out[self.at..next].copy_from_slice(word);
+        self.at = next;
     }
-}
 
-// A tab and a whole number.
-fn put_field(out: &mut [u8], at: usize, z: i64) -> usize
-    requires { at + length (tab_byte ∷ decimal_z z) ≤ length out.old }
-    ensures { Wrote out.old out.new at result (tab_byte ∷ decimal_z z) }
-{
-    let next = put_word(out, at, b"\t");
-    put_number(out, next, z)
-}
-
-// A line: a word, each number behind a tab, and a line feed.
-pub fn put_line(out: &mut [u8], at: usize, word: &[u8], numbers: &[i64]) -> usize
-    requires { at + length (line word.now numbers.now) ≤ length out.old }
-    ensures { Wrote out.old out.new at result (line word.now numbers.now) }
-{
-    let mut next = put_word(out, at, word);
-    for i in 0..numbers.len() {
-        next = put_field(out, next, numbers[i]);
+    // The decimal digits of a number.
+    fn digits(&mut self, n: u64)
+        requires { Room self.old (decimal n) }
+        ensures { Puts self.old self.new (decimal n) }
+    {
+        let mut digits = [0u8; MOST_DIGITS];
+        let k = io::decimal(n, &mut digits);
+        self.word(&digits[..k]);
     }
-    put_word(out, next, b"\n")
+
+    // A whole number.
+    fn number(&mut self, z: i64)
+        requires { Room self.old (decimal_z z) }
+        ensures { Puts self.old self.new (decimal_z z) }
+    {
+        if z < 0 {
+            self.word(b"-");
+        }
+        self.digits(z.unsigned_abs());
+    }
+
+    // A tab and a whole number.
+    fn field(&mut self, z: i64)
+        requires { Room self.old (tab_byte ∷ decimal_z z) }
+        ensures { Puts self.old self.new (tab_byte ∷ decimal_z z) }
+    {
+        self.word(b"\t");
+        self.number(z);
+    }
+
+    // A line: a word, each number behind a tab, and a line feed.
+    pub fn line(&mut self, word: &[u8], numbers: &[i64])
+        requires { Room self.old (line word.now numbers.now) }
+        ensures { Puts self.old self.new (line word.now numbers.now) }
+    {
+        self.word(word);
+        for &z in numbers {
+            self.field(z);
+        }
+        self.word(b"\n");
+    }
 }

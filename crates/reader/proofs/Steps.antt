@@ -1,170 +1,128 @@
 -- The walk over the lines of a text, a line at a time: what holds before a line (`Walking`) holds after it, or the walk is left with
--- the text's reading (`Left`). In a line, a field at a time: the numbers seen and those that are left are all its numbers, and its levels are stored
+-- the text's reading. In a line, a field at a time: the numbers seen and those that are left are all its numbers, and its levels are stored
 -- (`Scanning`).
-use mathlib.Core.Path.{◌≡◌, refl, sym, ap, ◌∙◌}
-use mathlib.Core.Bool.{Bool, true, false}
-use mathlib.Core.Option.{Option, some}
+use mathlib.Core.Path.{◌≡◌, refl, sym, ap, ◌∙◌, subst}
+use mathlib.Core.Bool.{Bool, true, false, cond, ◌&&◌, and-false}
 use mathlib.Core.List.{List, [], ◌∷◌, ◌++◌}
 use Prim.Native.Nat.{ℕ, ◌+◌, ◌≤◌, ◌<◌}
 use native.Mathlib.Omega.{arith}
-use borrow.Author.Tests.{ne_eqb, eqb-true, eqb-false, ltb-true, ltb-false}
+use borrow.Author.Tests.{ne_eqb, eq-eqb, ltb-true, ltb-false, lt-ltb, le-ltb}
 use lib.Dec.{eqb, ltb}
-use lib.ListN.{length, get_or, set, length-set, length-append, get_or-append}
-use lib.Seq.{slice, take-length, get_or-set_other}
+use lib.ListN.{length, get_or, set, take, drop, length-set, length-append, length-drop, get_or-append}
+use lib.Seq.{get_or-set_other}
 use lib.IntN.{ℤ, pos}
+use Rattle.std.specs.Prelude.{Result, Ok, Err, Some, None}
 use Rattle.text.specs.Bytes.{until, after}
-use Rattle.text.proofs.Cuts.{cut_in}
+use Rattle.text.proofs.Cuts.{until_le}
 use Rattle.meaning.specs.Plan as M
 use Rattle.meaning.specs.Plan.{most_bytes, most_levels_together}
-use Rattle.meaning.specs.Reading.{tab_byte, line_feed, item, numbers, split, Form, form_of, Step, line_step, with_record}
-use Rattle.meaning.specs.Reading.{Reading, plan, refused, empty, read_pieces, after_step}
+use Rattle.meaning.specs.Reading.{tab_byte, line_feed, item, numbers, split, line_form, Step, taken, fault, line_step}
+use Rattle.meaning.specs.Reading.{Reading, plan, refused, empty, read_pieces}
 use Rattle.meaning.specs.Numbers.{wrong_form_number}
+use Rattle.scope.specs.declared.Fault.{Fault}
+use Rattle.scope.specs.declared.Fault.TheVariants.{WrongForm}
+use Rattle.scope.specs.declared.Refusal.{Refusal}
+use Rattle.scope.specs.Faults as F
 use Rattle.plan.specs.declared.Plan.{Plan}
 use Rattle.plan.specs.declared.Record.{Record}
 use Rattle.plan.specs.Held.{levels_in, Holds, LevelsHeld}
 use Rattle.plan.proofs.Growth.{with_row, holds_more, held_more}
 use Rattle.plan.proofs.Padded.{all_same, one_more}
 use Rattle.fields.specs.declared.Line.{Line}
+use Rattle.fields.specs.Fields.{begun, first_field, with_number, FieldRead, Numbered}
+use Rattle.fields.proofs.Walks as W
 use Rattle.faults.specs.declared.SoFar.{SoFar}
-use Rattle.faults.specs.Faults.{no_fault}
-use Rattle.fields.specs.declared.Field.TheVariants.{Number, Wrong}
-use Rattle.line.specs.declared.Effect.TheVariants.{Fault, Head, Entry}
-use Rattle.fields.specs.Fields.{begun, with_number, field_end, FieldRead, Numbered}
-use Rattle.line.specs.Lines.{Room, Counts, Stored, with_level, Whole, Gives, word_form}
+use Rattle.line.specs.declared.Effect.{Effect}
+use Rattle.line.specs.declared.Effect.TheVariants.{Head, Entry}
+use Rattle.line.specs.Lines.{Counts, Stored, with_level, Whole, Gives, Judged, word_form}
 use Rattle.line.proofs.Judges.{step_wrong}
 use Rattle.line.proofs.Stores.{stored_none, stored_more}
-use Rattle.fields.proofs.Walks as W
 use Rattle.reader.proofs.Pieces as P
-use Rattle.reader.specs.declared.Verdict.TheVariants.{Taken, Refused}
-use Rattle.reader.specs.Heard.{Walked, verdict_of, verdict_at}
+use Rattle.reader.specs.Heard.{so_far, SameAbove, Standing, Stepped, Walked}
 
 abbrev pub lines : List ℕ → Reading
 lines text = read_pieces (split line_feed text) 1 empty
 
--- ---- before a line
+-- ---- over the lines
 
-abbrev pub so_far : Plan → SoFar
-so_far h = record { events = h.events; records = h.count; levels = h.used }
-
--- line `number` begins at place `at`, and p is the plan read so far
-pub record Walking (text before levels : List ℕ) (h : Plan) (number at : ℕ) : Type 0 where
-  pub one : 1 ≤ number
-  pub far : number ≤ at + 1
-  pub inside : at ≤ length text
+-- line `number` begins what is left, and p is the plan read so far
+pub record Walking (text before levels : List ℕ) (h : Plan) (number : ℕ) (rest : List ℕ) : Type 0 where
+  pub far : number + length rest ≤ length text + 1
   pub p : M.Plan
-  pub holds : Holds p h
-  pub held : LevelsHeld p before levels
-  pub start : number ≡ 1 → p ≡ empty
-  pub room : Room (so_far h)
-  pub rest : read_pieces (split line_feed (slice at (length text) text)) number p ≡ lines text
+  pub standing : Standing number p h before levels
+  pub same : read_pieces (split line_feed rest) number p ≡ lines text
 
-pub begin : {text before : List ℕ} {h : Plan} → Holds empty h → LevelsHeld empty before before → Walking text before before h 1 0
+pub begin : {text before : List ℕ} {h : Plan} → Holds empty h → LevelsHeld empty before before → Walking text before before h 1 text
 begin {text} o l = record {
-  one = omega arith;
   far = omega arith;
-  inside = omega arith;
   p = empty;
-  holds = o;
-  held = l;
-  start = λ _. refl;
-  room = record { events = omega (arith, o.events); levels = omega (arith, o.used) };
-  rest = rw (take-length text);
+  standing = record {
+    one = omega arith;
+    holds = o;
+    held = l;
+    start = λ _. refl;
+    room = record { events = omega (arith, o.events); levels = omega (arith, o.used) };
+  };
+  same = refl;
 }
 
--- ---- out of the walk
+-- what a step says that has no fault, and one that has
+stepped_ok : (s : Step) (number : ℕ) (before levels : List ℕ) (h : Plan) (u : Unit {0}) → Stepped s number before h levels (Ok u)
+    → (q : M.Plan) × (s ≡ taken q) × Standing (number + 1) q h before levels
+stepped_ok (taken q) number before levels h u d = (q, refl, d)
+stepped_ok (fault k) number before levels h u d = absurd d
 
--- with this fault, or none, in line `number`: the answer that the two make is right
-pub record Left (text before levels : List ℕ) (h : Plan) (fault number : ℕ) : Type 0 where
-  pub long : length levels ≡ length before
-  pub walked : Walked text before levels (record { verdict = verdict_at fault number; plan = h })
+stepped_err : (s : Step) (number : ℕ) (before levels : List ℕ) (h : Plan) (f : Fault) → Stepped s number before h levels (Err f)
+    → (s ≡ fault (F.number f)) × SameAbove before levels
+stepped_err (taken q) number before levels h f d = absurd d
+stepped_err (fault k) number before levels h f d = (ap fault (sym d.0), d.1)
 
-module _ {text before levels : List ℕ} {h : Plan} {fault number : ℕ} (long : length levels ≡ length before) where
-  left_refused : {k l : ℕ} → lines text ≡ refused k l → verdict_at fault number ≡ Refused k l
-      → ((i : ℕ) → most_levels_together ≤ i → get_or levels i 0 ≡ get_or before i 0) → Left text before levels h fault number
-  left_refused e v above = record {
-    long = long;
-    walked = record {
-      verdict = v ∙ sym (ap verdict_of e);
-      found = λ p q. let z : ◌≡◌ {A = ℕ} 0 1 = cc in absurd (omega arith);
-      above = above;
-    };
-  }
+walked_err : {x : Reading} (before levels : List ℕ) (h : Plan) (r : Refusal) → x ≡ refused (F.number r.fault) r.line → SameAbove before levels
+    → Walked x before h levels (Err r)
+walked_err before levels h r e s = rw e (refl, refl, s)
 
-  left_taken : {p : M.Plan} → lines text ≡ plan p → verdict_at fault number ≡ Taken → Holds p h → LevelsHeld p before levels
-      → Left text before levels h fault number
-  left_taken {p} e v o l = record {
-    long = long;
-    walked = record {
-      verdict = v ∙ sym (ap verdict_of e);
-      found = λ q d. let same : p ≡ q = cc in (rw (← same) o, rw (← same) l);
-      above = l.rest;
-    };
-  }
+module _ {text before levels : List ℕ} {h : Plan} {number : ℕ} {rest : List ℕ} (w : Walking text before levels h number rest) where
+  -- after line feed k of what is left
+  module _ (k : ℕ) (e : k ≡ until line_feed rest) (l : k < length rest) (h' : Plan) (levels' : List ℕ) where
+    pub walk_on : (u : Unit {0}) → Stepped (line_step number w.p (line_form (take k rest))) number before h' levels' (Ok u)
+        → Walking text before levels' h' (number + 1) (drop (k + 1) rest)
+    walk_on u d =
+        let s = stepped_ok _ _ _ _ _ u d in
+        record {
+          far = omega (arith, w.far, length-drop (k + 1) rest);
+          p = s.0;
+          standing = s.2;
+          same = sym (rw s.1 at (P.pieces_step rest number w.p k e l)) ∙ w.same;
+        }
 
-module _ {text before levels : List ℕ} {h : Plan} {number at : ℕ} (w : Walking text before levels h number at) where
-  -- by a fault: the area is known from the last possible level on
-  pub broken : {levels' : List ℕ} {fault : ℕ} → 0 < fault → lines text ≡ refused fault number → length levels' ≡ length levels
-      → ((i : ℕ) → most_levels_together ≤ i → get_or levels' i 0 ≡ get_or levels i 0) → Left text before levels' h fault number
-  broken {levels'} {fault} real e long above =
-      left_refused (long ∙ w.held.long) e (rw (ne_eqb fault no_fault (λ z. omega arith))) (λ i k. above i k ∙ w.held.rest i k)
+    pub walk_fault : (f : Fault) → Stepped (line_step number w.p (line_form (take k rest))) number before h' levels' (Err f)
+        → Walked (lines text) before h' levels' (Err (record { fault = f; line = number }))
+    walk_fault f d =
+        let s = stepped_err _ _ _ _ _ f d in
+        walked_err before levels' h' (record { fault = f; line = number }) (sym w.same ∙ P.pieces_step rest number w.p k e l ∙ rw s.0) s.1
 
-  pub wrong_form : lines text ≡ refused wrong_form_number number → Left text before levels h wrong_form_number number
-  wrong_form e = broken (omega arith) e refl (λ i _. refl)
+  -- no line feed is left
+  module _ (e : until line_feed rest ≡ length rest) where
+    read_last : lines text ≡ cond (eqb (length rest) 0 && ltb 1 number) (plan w.p) (refused wrong_form_number number)
+    read_last = sym w.same ∙ P.pieces_last rest number w.p e
 
-  -- at the end of the text
-  pub ended : {fault : ℕ} → fault ≡ no_fault → length text ≤ at → Left text before levels h fault number
-  ended {fault} sound e = go (eqb number 1) refl
-    where
-      out : at ≡ length text
-      out = omega (arith, w.inside)
+    pub walk_end : (u : Unit {0}) → (number ≡ 1 → ⊥) → length rest ≡ 0 → Walked (lines text) before h levels (Ok u)
+    walk_end u n z =
+        let many = lt-ltb 1 number (omega (arith, w.standing.one)) in
+        let whole = rw (eq-eqb (length rest) 0 z, many) at read_last in
+        rw whole (w.standing.holds, w.standing.held)
 
-      go : (b : Bool) → eqb number 1 ≡ b → Left text before levels h fault number
-      go true t =
-          let nothing = sym w.rest ∙ P.pieces_empty text at number w.p out (eqb-true number 1 t) in
-          left_refused w.held.long nothing (rw (sound, t)) w.held.rest
-      go false t =
-          let all = sym w.rest ∙ P.pieces_end text at number w.p out (omega (arith, w.one, eqb-false number 1 t)) in
-          left_taken w.held.long all (rw (sound, t)) w.holds w.held
+    wrong_form : lines text ≡ refused wrong_form_number number → Walked (lines text) before h levels (Err (record { fault = WrongForm; line = number }))
+    wrong_form f = walked_err before levels h (record { fault = WrongForm; line = number }) f w.standing.held.rest
 
-  counts : Counts w.p h.events h.count h.used
-  counts = record { events = sym w.holds.events; records = sym w.holds.count; levels = sym w.holds.used }
+    -- no line at all, or one that does not end
+    pub walk_none : number ≡ 1 → Walked (lines text) before h levels (Err (record { fault = WrongForm; line = number }))
+    walk_none n = wrong_form (read_last ∙ rw (le-ltb 1 number (omega arith), and-false))
+
+    pub walk_unended : (length rest ≡ 0 → ⊥) → Walked (lines text) before h levels (Err (record { fault = WrongForm; line = number }))
+    walk_unended n = wrong_form (read_last ∙ rw (ne_eqb (length rest) 0 n))
 
 -- ---- in a line
-
--- the line from `at` up to its line feed at k
-pub record Current (text before levels : List ℕ) (h : Plan) (number at k : ℕ) : Type 0 where
-  pub walking : Walking text before levels h number at
-  pub on : at < length text
-  pub ends : k ≡ at + until line_feed (slice at (length text) text)
-  pub inner : k < length text
-
-module _ {text before levels : List ℕ} {h : Plan} {number at k : ℕ} (w : Walking text before levels h number at)
-    (on : at < length text) (ends : k ≡ at + until line_feed (slice at (length text) text)) where
-  -- a line without line feed
-  pub unended : k ≡ length text → Left text before levels h wrong_form_number number
-  unended e = wrong_form w (sym w.rest ∙ P.pieces_last text at k number w.p on ends e)
-
-  pub current : (k ≡ length text → ⊥) → Current text before levels h number at k
-  current more = record {
-    walking = w;
-    on = on;
-    ends = ends;
-    inner = omega (arith, ends, more, cut_in line_feed text at (length text) (omega arith) (omega arith));
-  }
-
--- where its word ends, its numbers, and its form
-abbrev word_end : List ℕ → ℕ → ℕ → ℕ
-word_end text at k = at + until tab_byte (slice at k text)
-
-abbrev numbers_in : List ℕ → ℕ → ℕ → Option (List ℤ)
-numbers_in text at k = numbers (after tab_byte (slice (word_end text at k) k text))
-
-abbrev form_at : List ℕ → ℕ → ℕ → Form
-form_at text at k = form_of (slice at (word_end text at k) text) (numbers_in text at k)
-
--- the reading of the text, by what line `number` does, which ends at k
-abbrev onward : List ℕ → ℕ → ℕ → Step → Reading
-onward text number k = after_step number (λ p. read_pieces (split line_feed (slice (k + 1) (length text) text)) (number + 1) p)
 
 -- a line with other numbers
 abbrev read_on : Line → ℕ → List ℤ → Line
@@ -174,19 +132,18 @@ read_on l n fs = record { number = l.number; word = l.word; first = l.first; cou
 abbrev pub with_head : Plan → ℕ → ℕ → Plan
 with_head h m z = record { events = m; horizon = z; count = h.count; used = h.used; records = h.records }
 
--- before the field at p of a line up to k that began as `start`, with this area: the numbers seen, with those that are left, are all, and levels among
--- those seen are stored
-pub record Scanning (text : List ℕ) (start : Line) (k used : ℕ) (area : List ℕ) (line : Line) (levels : List ℕ) (p : ℕ) : Type 0 where
-  pub kept : line ≡ read_on start line.count line.fields
-  pub inside : p ≤ k
+-- before the field at p of line s, with this area: the numbers seen, with those that are left, are all, and levels among those seen are stored
+pub record Scanning (s : List ℕ) (number used : ℕ) (area : List ℕ) (line : Line) (levels : List ℕ) (p : ℕ) : Type 0 where
+  pub kept : line ≡ read_on (begun s number) line.count line.fields
+  pub inside : p ≤ length s
   pub few : line.count ≤ p
   pub seen : List ℤ
   pub numbered : Numbered seen line
   pub stored : Stored line.word seen used area levels
-  pub rest : numbers (after tab_byte (slice start.first k text)) ≡ P.onto seen (numbers (after tab_byte (slice p k text)))
+  pub rest : P.numbers_in s ≡ P.onto seen (numbers (after tab_byte (drop p s)))
 
-numbered_none : (text : List ℕ) (number at k : ℕ) → Numbered [] (begun text number at k)
-numbered_none text number at k = record { count = refl; size = refl; at = λ i _. all_same (pos 0) 4 i }
+numbered_none : (s : List ℕ) (number : ℕ) → Numbered [] (begun s number)
+numbered_none s number = record { count = refl; size = refl; at = λ i _. all_same (pos 0) 4 i }
 
 -- one number more: from the fifth on it is stored nowhere
 numbered_more : {vs : List ℤ} {line : Line} → Numbered vs line → (v : ℤ) → Numbered (vs ++ (v ∷ [])) (with_number line v)
@@ -205,113 +162,98 @@ numbered_more {vs} {line} n v = record {
         get_or-set_other line.fields line.count k v (pos 0) (λ e. omega arith) ∙ n.at k l
         ∙ sym (get_or-append vs (v ∷ []) (pos 0) k (omega (arith, n.count)))
 
-module _ {text before levels : List ℕ} {h : Plan} {number at k : ℕ} (o : Current text before levels h number at k) where
-  w : Walking text before levels h number at
-  w = o.walking
+-- none of its fields is read
+pub scan_begin : (s : List ℕ) (number used : ℕ) (area : List ℕ) → Scanning s number used area (begun s number) area (until tab_byte s)
+scan_begin s number used area = record {
+  kept = refl;
+  inside = until_le tab_byte s;
+  few = omega arith;
+  seen = [];
+  numbered = numbered_none s number;
+  stored = stored_none (begun s number).word used area;
+  rest = P.scan_start _;
+}
 
-  pub line_in : (at ≤ k) × (k ≤ length text)
-  line_in = (omega (arith, o.ends), omega (arith, o.inner))
+module _ {s : List ℕ} {number used : ℕ} {area : List ℕ} {line : Line} {levels : List ℕ} {p : ℕ} (c : Scanning s number used area line levels p) where
+  -- ---- a field
+  module _ (more : p < length s) where
+    field_in : (v : ℤ) (next : ℕ) → FieldRead s p (Some (v, next)) → (p < next) × (next ≤ length s)
+    field_in v next f = let g = W.field_in s p more in (omega (arith, g.0, f.0), omega (arith, g.1, f.0))
 
-  pub step_in : (number ≤ length text) × (at ≤ k) × (k < length text)
-  step_in = (omega (arith, w.far, line_in.0, o.inner), line_in.0, o.inner)
+    pub scan_more : (v : ℤ) (next : ℕ) → FieldRead s p (Some (v, next))
+        → Scanning s number used area (with_number line v) (with_level line used v levels) next
+    scan_more v next f =
+        let g = field_in v next f in
+        record {
+          kept = ap (λ (l : Line). read_on l (line.count + 1) (set line.fields line.count v)) c.kept;
+          inside = g.1;
+          few = omega (arith, c.few, g.0);
+          seen = c.seen ++ (v ∷ []);
+          numbered = numbered_more c.numbered v;
+          stored = stored_more c.numbered c.stored v;
+          rest = rw f.0 (P.scan_good s p more c.seen _ c.rest v f.1);
+        }
 
-  word_in : word_end text at k ≤ k
-  word_in = omega (arith, cut_in tab_byte text at k line_in.0 line_in.1)
+    unread_step : FieldRead s p None → (q : M.Plan) → line_step number q (line_form s) ≡ fault wrong_form_number
+    unread_step f q = rw (P.form_cut s, P.scan_bad s p more c.seen _ c.rest f) (step_wrong number q)
 
-  -- none of its fields is read
-  pub scan_begin : Scanning text (begun text number at k) k h.used levels (begun text number at k) levels (word_end text at k)
-  scan_begin = record {
-    kept = refl;
-    inside = word_in;
-    few = omega arith;
-    seen = [];
-    numbered = numbered_none text number at k;
-    stored = stored_none (begun text number at k).word h.used levels;
-    rest = P.scan_start _;
-  }
+    pub unread : FieldRead s p None → (q : M.Plan) (before : List ℕ) (h : Plan) → Standing number q h before area
+        → Stepped (line_step number q (line_form s)) number before h levels (Err WrongForm)
+    unread f q before h st = rw (unread_step f q) (refl, λ i k. c.stored.above i k ∙ st.held.rest i k)
 
-  stepped : lines text ≡ onward text number k (line_step number w.p (form_at text at k))
-  stepped =
-      sym w.rest ∙ P.pieces_step text at k number w.p o.on o.ends o.inner
-      ∙ rw (P.form_cut text at k (word_end text at k) line_in.0 line_in.1 refl)
+-- ---- all fields are read
 
-  module _ {line : Line} {levels' : List ℕ} {p : ℕ} (s : Scanning text (begun text number at k) k h.used levels line levels' p) where
-    -- ---- a field
-    module _ (more : p < k) where
-      pub room_more : length text ≤ most_bytes → (line.count < most_bytes) × (length line.fields ≡ 4)
-      room_more short = (omega (arith, s.few, line_in.1), s.numbered.size)
+-- what the line gives, by the numbers of the plan that the code takes
+pub judged_so_far : {line : Line} {t : SoFar} {levels : List ℕ} (h : Plan) (r : Result Effect Fault) → t ≡ so_far h → Judged line t levels r →
+    Judged line (so_far h) levels r
+judged_so_far {line} {levels = levels} h r e j = subst (λ t. Judged line t levels r) e j
 
-      pub field_in : {v : ℤ} {next : ℕ} → FieldRead text p k (Number v next) → (p < next) × (next ≤ k)
-      field_in {v} {next} f = let g = W.field_in text p k next more line_in.1 f.0 in (omega (arith, g.0), g.1)
+module _ {s : List ℕ} {number : ℕ} {area : List ℕ} {line : Line} {levels : List ℕ} {p : ℕ} (h : Plan) (c : Scanning s number h.used area line levels p)
+    (all : length s ≤ p) where
+  pub whole : Whole c.seen line (so_far h) area levels
+  whole = record { numbered = c.numbered; stored = c.stored }
 
-      pub scan_more : {v : ℤ} {next : ℕ} → FieldRead text p k (Number v next)
-          → Scanning text (begun text number at k) k h.used levels (with_number line v) (with_level line h.used v levels') next
-      scan_more {v} {next} f =
-          let g = field_in f in
-          record {
-            kept = ap (λ (l : Line). read_on l (line.count + 1) (set line.fields line.count v)) s.kept;
-            inside = g.1;
-            few = omega (arith, s.few, g.0);
-            seen = s.seen ++ (v ∷ []);
-            numbered = numbered_more s.numbered v;
-            stored = stored_more s.numbered s.stored v;
-            rest = P.scan_good text p k next more line_in.1 f.0 s.seen _ s.rest v (rw f.0 f.1);
-          }
+  same_number : line.number ≡ number
+  same_number = ap (λ (l : Line). l.number) c.kept
 
-      pub unread : FieldRead text p k Wrong → Left text before levels' h wrong_form_number number
-      unread f =
-          let bad = P.scan_bad text p k (field_end text p k) more line_in.1 refl s.seen _ s.rest f in
-          broken w (omega arith) (stepped ∙ rw (bad, step_wrong number w.p)) s.stored.long s.stored.above
+  form : line_form s ≡ word_form line.word c.seen
+  form = P.form_cut s ∙ rw (P.scan_end s p all c.seen _ c.rest, c.kept) (P.word_form_lem (first_field s) c.seen)
 
-    -- ---- all fields are read
-    module _ (all : k ≤ p) where
-      all_seen : numbers_in text at k ≡ some s.seen
-      all_seen = P.scan_end text p k (omega (arith, s.inside)) s.seen _ s.rest
+  judged : (q : M.Plan) → line_step number q (line_form s) ≡ line_step line.number q (word_form line.word c.seen)
+  judged q = rw (form, same_number)
 
-      pub whole : Whole s.seen line (so_far h) levels levels'
-      whole = record { numbered = s.numbered; stored = s.stored }
+  module _ (q : M.Plan) (before : List ℕ) (st : Standing number q h before area) where
+    counts : Counts q h.events h.count h.used
+    counts = record { events = sym st.holds.events; records = sym st.holds.count; levels = sym st.holds.used }
 
-      same_number : line.number ≡ number
-      same_number = ap (λ (l : Line). l.number) s.kept
+    pub faulted : (f : Fault) → Gives c.seen line (so_far h) area levels (Err f) → Stepped (line_step number q (line_form s)) number before h levels (Err f)
+    faulted f g = rw (judged q, g.step q counts) (refl, λ i k. g.above i k ∙ st.held.rest i k)
 
-      form : word_form line.word s.seen ≡ form_at text at k
-      form = rw (s.kept, all_seen) (sym (P.word_form_lem (slice at (word_end text at k) text) s.seen))
+    pub headed : (m z : ℕ) (u : Unit {0}) → Gives c.seen line (so_far h) area levels (Ok (Head m z))
+        → Stepped (line_step number q (line_form s)) number before (with_head h m z) levels (Ok u)
+    headed m z u g =
+        let one : number ≡ 1 = sym same_number ∙ g.first in
+        let e : q ≡ empty = st.start one in
+        let o : Holds empty h = rw e at st.holds in
+        let l : LevelsHeld empty before area = rw e at st.held in
+        rw (judged q, g.step q)
+        (record {
+          one = omega arith;
+          holds = record { events = refl; horizon = refl; count = o.count; used = o.used; size = o.size; rows = o.rows };
+          held = rw g.kept (record { long = l.long; done = l.done; rest = l.rest });
+          start = λ first. absurd (omega (arith, st.one));
+          room = record { events = g.most; levels = st.room.levels };
+        })
 
-      judged : lines text ≡ onward text number k (line_step line.number w.p (word_form line.word s.seen))
-      judged = stepped ∙ rw (same_number, form)
-
-      pub faulted : {j : ℕ} → Gives s.seen line (so_far h) levels levels' (Fault j) → Left text before levels' h j number
-      faulted f = broken w f.some (judged ∙ rw (f.step w.p (counts w))) s.stored.long f.above
-
-      pub headed : {m z : ℕ} → Gives s.seen line (so_far h) levels levels' (Head m z) → Walking text before levels' (with_head h m z) (number + 1) (k + 1)
-      headed {m} {z} f =
-          let e : w.p ≡ empty = w.start (sym same_number ∙ f.first) in
-          let g : Holds empty h = rw e at w.holds in
-          let l : LevelsHeld empty before levels = rw e at w.held in
-          record {
-            one = omega arith;
-            far = omega (arith, w.far, line_in.0);
-            inside = omega (arith, o.inner);
-            p = record { events = m; horizon = z; records = [] };
-            holds = record { events = refl; horizon = refl; count = g.count; used = g.used; size = g.size; rows = g.rows };
-            held = rw f.kept (record { long = l.long; done = l.done; rest = l.rest });
-            start = λ first. absurd (omega (arith, w.one));
-            room = record { events = f.most; levels = w.room.levels };
-            rest = sym (judged ∙ rw (f.step w.p));
-          }
-
-      pub entered : {r : Record} {n : ℕ} → most_levels_together ≤ length before → n ≡ r.count
-          → Gives s.seen line (so_far h) levels levels' (Entry r) → Walking text before levels' (with_row h r n) (number + 1) (k + 1)
-      entered {r} {n} long e f =
-          let c : n ≡ length (levels_in f.entry) = e ∙ ap (λ (x : Record). x.count) f.row in
-          record {
-            one = omega arith;
-            far = omega (arith, w.far, line_in.0);
-            inside = omega (arith, o.inner);
-            p = with_record w.p f.entry;
-            holds = rw (← f.row) at (holds_more w.p f.entry h n w.holds f.few c);
-            held = rw f.stored (held_more w.p f.entry before levels h.used w.held w.holds.used f.room long);
-            start = λ first. absurd (omega (arith, w.one));
-            room = record { events = w.room.events; levels = omega (arith, f.room, c) };
-            rest = sym (judged ∙ rw (f.step w.p (counts w)));
-          }
+    pub entered : (r : Record) (n : ℕ) (u : Unit {0}) → most_levels_together ≤ length area → n ≡ r.count
+        → Gives c.seen line (so_far h) area levels (Ok (Entry r)) → Stepped (line_step number q (line_form s)) number before (with_row h r n) levels (Ok u)
+    entered r n u long e g =
+        let k : n ≡ length (levels_in g.entry) = e ∙ ap (λ (x : Record). x.count) g.row in
+        rw (judged q, g.step q counts)
+        (record {
+          one = omega arith;
+          holds = rw (← g.row) at (holds_more q g.entry h n st.holds g.few k);
+          held = rw g.stored (held_more q g.entry before area h.used st.held st.holds.used g.room (omega (arith, st.held.long)));
+          start = λ first. absurd (omega (arith, st.one));
+          room = record { events = st.room.events; levels = omega (arith, g.room, k) };
+        })

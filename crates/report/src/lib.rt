@@ -1,28 +1,40 @@
 // From a plan text to the printed form of its outcome.
 #![tactic(auto)]
 
-ghost use Rattle.std.specs.Prelude.{List, ℕ, ◌≤◌, length};
-ghost use Rattle.solver.specs.Solves.{ReadInto};
+ghost use Rattle.std.specs.Prelude.{◌≡◌, List, ℕ, ◌≤◌, length};
+ghost use Rattle.meaning.specs.Reading as R;
+ghost use Rattle.meaning.specs.Reading.{read};
 ghost use Rattle.forms.specs.Put.{area_room};
 ghost use Rattle.report.specs.Answer.{Told, Answered};
 
 use forms::AREA;
-use reader::Answer;
-use scope::{MOST_EVENTS, MOST_RECORDS, Side};
-use settle::Outcome;
+use plan::Loaded;
+use scope::{MOST_EVENTS, MOST_LEVELS_TOGETHER, MOST_RECORDS, Side};
+use settle::{Areas, Outcome};
 
-// The form of the outcome of what the reader said, with the latest times or the earliest.
-fn put_outcome(out: &mut [u8], said: Answer, held: &[u8], side: Side) -> usize
-    requires { (area_room ≤ length out.old) × ((text : List ℕ) × ReadInto text held.now said) }
-    ensures { (text : List ℕ) → ReadInto text held.now said → Told side text out.old out.new result }
+// The form of the outcome of a text's plan, with the latest times or the earliest.
+fn put_outcome(out: &mut [u8], plan: &Loaded, side: Side) -> usize
+    requires { area_room ≤ length out.old }
+    ensures { (text : List ℕ) → read text ≡ R.plan plan.now → Told side text out.old out.new result }
 {
     let mut times = [0i64; MOST_EVENTS];
     let mut levels = [0u8; MOST_RECORDS];
     let mut chain = [0u16; MOST_EVENTS];
-    match solver::outcome_of(said, held, side, &mut times, &mut levels, &mut chain) {
-        Outcome::Solved(w) => forms::put_solved(out, said.plan, w, &times, &levels),
-        Outcome::NoTimetable(steps) => forms::put_none(out, said.plan, held, &chain, steps),
-        Outcome::Refused(number, line) => forms::put_refused(out, number, line),
+    let mut areas = Areas {
+        times: &mut times,
+        levels: &mut levels,
+        chain: &mut chain,
+    };
+    let events = plan.plan.events;
+    let outcome = settle::settle(plan, side, &mut areas);
+    let Areas {
+        times,
+        levels,
+        chain,
+    } = areas;
+    match outcome {
+        Outcome::Solved(w) => forms::put_solved(out, plan, &times[..events], &levels[..w]),
+        Outcome::NoTimetable(steps) => forms::put_none(out, plan, &chain[..steps]),
     }
 }
 
@@ -34,7 +46,15 @@ pub fn answer(text: &[u8], side: Side, out: &mut [u8]) -> usize
     if out.len() < AREA {
         return 0;
     }
-    let mut held = [0u8; scope::MOST_LEVELS_TOGETHER];
-    let said = reader::read(text, &mut held);
-    put_outcome(out, said, &held, side)
+    let mut held = [0u8; MOST_LEVELS_TOGETHER];
+    match reader::read(text, &mut held) {
+        Ok(plan) => {
+            let loaded = Loaded {
+                plan: &plan,
+                levels: &held,
+            };
+            put_outcome(out, &loaded, side)
+        }
+        Err(refusal) => forms::put_refused(out, refusal),
+    }
 }

@@ -2,6 +2,8 @@
 // And the one choice that a caller has (T-02), which the definitions take from here.
 #![tactic(auto)]
 
+ghost use Rattle.std.specs.Prelude.{◌≡◌};
+
 // What is allowed: section 1. The ends lo and hi lie between -MOST_END and MOST_END.
 pub const MOST_EVENTS: usize = 128;
 
@@ -28,24 +30,48 @@ pub const HORIZON_CODES: usize = 2 * MOST_RECORDS;
 // A plan has two bounds for each event other than 0, and two for each record.
 pub const MOST_BOUNDS: usize = 2 * (MOST_EVENTS - 1) + 2 * MOST_RECORDS;
 
-// The numbers of an outcome: section 3, and T-04.
+// The numbers of an outcome: section 3; those of refusals stand below.
 pub const SOLVED: u8 = 0;
 
 pub const NO_TIMETABLE: u8 = 1;
 
-pub const WRONG_FORM: u8 = 2;
+// Why a text or an area is refused.
+#[derive(Clone, Copy, PartialEq, Eq)]
+pub enum Fault {
+    WrongForm,
+    TooMany,
+    OutOfRange,
+    SameEvent,
+    NotPeaked,
+    AreaTooShort,
+    NothingAllowed,
+}
 
-pub const TOO_MANY: u8 = 3;
+// The number of each: section 3, and T-04.
+impl From<Fault> for u8 {
+    ghost use Rattle.scope.specs.Faults.{number};
 
-pub const OUT_OF_RANGE: u8 = 4;
+    ghost from_gives = { λ fault n. n ≡ number fault };
 
-pub const SAME_EVENT: u8 = 5;
+    fn from(fault: Fault) -> u8 {
+        match fault {
+            Fault::WrongForm => 2,
+            Fault::TooMany => 3,
+            Fault::OutOfRange => 4,
+            Fault::SameEvent => 5,
+            Fault::NotPeaked => 6,
+            Fault::AreaTooShort => 7,
+            Fault::NothingAllowed => 8,
+        }
+    }
+}
 
-pub const NOT_PEAKED: u8 = 6;
-
-pub const AREA_TOO_SHORT: u8 = 7;
-
-pub const NOTHING_ALLOWED: u8 = 8;
+// A fault and its place: the line it stands in, 0 where it is the text's length or an area's.
+#[derive(Clone, Copy, PartialEq, Eq)]
+pub struct Refusal {
+    pub fault: Fault,
+    pub line: usize,
+}
 
 // Which of the best timetables is given: the one with the greatest time of each event, or the one with the least.
 #[derive(Clone, Copy)]

@@ -1,7 +1,7 @@
 -- From what the parts of `settle` promise one another to the outcome of a plan.
 use mathlib.Core.Path.{◌≡◌, refl, sym, ap, ◌∙◌}
-use mathlib.Core.List.{List}
-use Prim.Native.Nat.{ℕ, ◌+◌, ◌*◌, ◌-◌, ◌≤◌, ◌<◌}
+use mathlib.Core.List.{List, [], ◌∷◌, ◌++◌}
+use Prim.Native.Nat.{ℕ, ◌≤◌}
 use native.Mathlib.Omega.{arith}
 use lib.ListN.{length}
 use lib.IntN.{ℤ, pos}
@@ -15,54 +15,62 @@ use Rattle.meaning.proofs.Levels.{levels_count}
 use Rattle.meaning.proofs.Solve.{outermost_solved}
 use Rattle.scope.specs.declared.Side.{Side}
 use Rattle.plan.specs.declared.Plan.{Plan}
-use Rattle.plan.specs.Held.{InMemory}
-use Rattle.distances.specs.Matrix.{at, Started, Timing}
+use Rattle.plan.specs.Held.{recalled, InMemory}
+use Rattle.distances.specs.declared.Matrix.{Matrix}
+use Rattle.distances.specs.Matrix.{at, Started}
 use Rattle.distances.specs.Sweep.{Swept}
 use Rattle.distances.proofs.Sweep.{swept_written}
 use Rattle.chain.specs.declared.Bound.{Bound as Entry}
 use Rattle.chain.specs.Clash.{listed, Broken, Found}
-use Rattle.bounds.specs.Listed.{Listed}
-use Rattle.bounds.specs.Tried.{Trying, Tried}
+use Rattle.bounds.specs.declared.Bounds.{Bounds}
+use Rattle.bounds.specs.Entries as B
+use Rattle.bounds.specs.Entries.{bound_at}
+use Rattle.bounds.specs.Listed.{Listed, horizon_count}
+use Rattle.bounds.specs.Tried.{Trying, Entered, Stopped}
 use Rattle.ladder.specs.Climbed.{Ready, Climbed}
 use Rattle.settle.specs.Settled.{Settled}
 use Rattle.settle.specs.declared.Outcome.TheVariants as Out
 use Rattle.bounds.proofs.Ends.{Chained, start_trying, all_net, all_stands, clash_broken, found_chained}
 
--- the places in the list as the code counts them
-abbrev pub horizon_place : Plan → ℕ
-horizon_place h = 2 * (h.events - 1)
+-- what stands before any bound of a record is added: the list of the bounds, and the matrix of the horizon alone
+pub record Begun (p : M.Plan) (b : Bounds) (list : List Entry) (d : Matrix) : Type 0 where
+  pub faultless : WithoutFault p
+  pub bounds : Listed p b
+  pub list_is : list ≡ B.held b
+  pub events : d.events ≡ p.events
+  pub started : Started p.events p.horizon d.entries
 
-abbrev pub last_place : Plan → ℕ
-last_place h = horizon_place h + 2 * h.count
+pub begun : {p : M.Plan} {h : Plan} {held : List ℕ} {b : Bounds} {list : List Entry} {d : Matrix} →
+    recalled h held ≡ p → InMemory (recalled h held) h held →
+    Listed p b → list ≡ B.held b → d.events ≡ h.events → Started h.events h.horizon d.entries → Begun p b list d
+begun e m s l n o = record {
+  faultless = rw e at m.faultless;
+  bounds = s;
+  list_is = l;
+  events = n ∙ ap (λ (p : M.Plan). p.events) e;
+  started = rw (ap (λ (p : M.Plan). p.events) e, ap (λ (p : M.Plan). p.horizon) e) at o;
+}
 
-module _ {p : M.Plan} {h : Plan} {held : List ℕ} {list : List Entry} (m : InMemory p h held) (s : Listed p list)
-    {d : List ℤ} (o : Started h.events h.horizon d) where
-  begun : Started p.events p.horizon d
-  begun = rw (m.holds.events, m.holds.horizon) at o
+module _ {p : M.Plan} {b : Bounds} {list : List Entry} {d : Matrix} (o : Begun p b list d) where
+  pub settle_trying : Trying list b.horizon d.events d.entries
+  settle_trying = rw (o.list_is, o.bounds.horizon, o.events) (start_trying o.faultless o.bounds o.started)
 
-  pub settle_trying : Trying list (horizon_place h) (last_place h) h.events d
-  settle_trying = rw (m.holds.events, m.holds.count) (start_trying m.faultless s begun)
+  -- a bound could not be added, and so a chain is found
+  module _ {last : List ℤ} {m : ℕ} (a : Stopped list b.horizon d.events d.entries last m) where
+    stopped : Stopped (B.held b) (horizon_count p) p.events d.entries last m
+    stopped = rw (o.list_is, o.bounds.horizon, o.events) at a
 
-  module _ {d' : List ℤ} {r : ℕ} (a : Tried list (horizon_place h) (last_place h) h.events d d' r) where
-    tried : Tried list (2 * (p.events - 1)) (2 * (p.events - 1) + 2 * length p.records) p.events d d' r
-    tried = rw (m.holds.events, m.holds.count) at a
+    pub settle_broken : Broken (listed list m) (bound_at list m) last p.events
+    settle_broken = rw o.list_is (clash_broken o.faultless o.bounds o.started stopped)
 
-    pub settle_broken : r < last_place h → Broken list d' p.events r
-    settle_broken l = clash_broken m.faultless s begun tried (rw (m.holds.events, m.holds.count) at l)
+    pub settle_chained : {k : ℕ} {before after : List ℕ} → Found (listed list m ++ (bound_at list m ∷ [])) before k after → Chained p before k after
+    settle_chained f = found_chained o.faultless o.bounds stopped.inside (rw o.list_is at f)
 
-    -- all bounds were added
-    pub settle_ready : last_place h ≤ r → Ready p h held d'
-    settle_ready l =
-        let e : r ≡ 2 * (p.events - 1) + 2 * length p.records = omega (arith, tried.high, rw (m.holds.events, m.holds.count) at l) in
-        record {
-          memory = m;
-          net = all_net m.faultless s begun (rw e at tried);
-          stands = all_stands m.faultless s begun (rw e at tried);
-        }
-
-  -- a chain was found
-  pub settle_chained : {r k : ℕ} {before after : List ℕ} → r < last_place h → Found (listed list (r + 1)) before k after → Chained p before k after
-  settle_chained l f = found_chained m.faultless s (rw (m.holds.events, m.holds.count) at l) f
+  -- all bounds were added
+  pub settle_ready : {d' : Matrix} → d'.events ≡ d.events → Entered list b.horizon d.events d.entries d'.entries (length list) → Ready p d'
+  settle_ready {d'} e a =
+      let all : Entered (B.held b) (horizon_count p) p.events d.entries d'.entries (length (B.held b)) = rw (o.list_is, o.bounds.horizon, o.events) at a in
+      record { events = e ∙ o.events; net = all_net o.faultless o.bounds o.started all; stands = all_stands o.faultless o.bounds o.started all }
 
 pub chained_settled : {s : Side} {p : M.Plan} {before after : List ℕ} {k : ℕ} (ts : List ℤ) (ls : List ℕ) → Chained p before k after →
     Settled s p (areas ts ls before) (areas ts ls after) (Out.NoTimetable k)
@@ -78,9 +86,6 @@ chained_settled ts ls c = record {
 -- ---- the times and the levels
 
 module _ {p : M.Plan} {d d' : List ℤ} {before after : List ℕ} {r : ℕ} (w : WithoutFault p) (c : Climbed p d d' before after r) where
-  pub climbed_timing : {n : ℕ} {times : List ℤ} → n ≡ p.events → most_events ≤ length times → Timing n d' times
-  climbed_timing e l = record { horizon = p.horizon; net = rw e c.net; room = omega (arith, w.most) }
-
   pub climbed_settled : (s : Side) {n : ℕ} {ts ts' : List ℤ} (chain : List ℕ) → n ≡ p.events → most_events ≤ length ts →
       Swept (pos 0) ts ts' 0 n (outermost s (at d')) → Settled s p (areas ts before chain) (areas ts' after chain) (Out.Solved r)
   climbed_settled s chain e l f =

@@ -1,2 +1,3 @@
 -- The outcome of a plan in memory.
+pub mod Lent
 pub mod Settled

@@ -1,71 +1,69 @@
 // The outcome of a plan in memory: its bounds are added, and the ladder is climbed or the clash is shown.
 #![tactic(auto)]
 
-ghost use Rattle.std.specs.Prelude.{◌≡◌};
-ghost use Rattle.meaning.specs.Plan as M;
-ghost use Rattle.meaning.specs.Outcome.{areas};
-ghost use Rattle.plan.specs.Held.{InMemory};
-ghost use Rattle.settle.specs.Settled.{number_of, place_of, Settling, Settled};
+ghost use Rattle.std.specs.Prelude.{◌≡◌, true};
+ghost use Rattle.meaning.specs.Outcome.{long_enough};
+ghost use Rattle.settle.specs.Settled.{number_of, place_of, Settled};
+ghost use Rattle.settle.specs.Lent.{lent, SameAreas};
 
-use distances::ENTRIES;
-use plan::Plan;
-use scope::{NO_TIMETABLE, SOLVED, Side};
+use bounds::Bounds;
+use distances::Matrix;
+use plan::Loaded;
+use scope::{NO_TIMETABLE, Refusal, SOLVED, Side};
 
-// What a text comes to: times and levels with the count of wishes, a chain with the count of its steps, or a refusal with its number and place.
-#[derive(Clone, Copy)]
+// What a plan comes to: times and levels with the count of wishes, or a chain with the count of its steps.
+#[derive(Clone, Copy, PartialEq, Eq)]
 pub enum Outcome {
     Solved(usize),
     NoTimetable(usize),
-    Refused(u8, usize),
 }
 
-// The number of document 01, section 3.
-pub fn number_of(outcome: Outcome) -> u8
-    ensures { result ≡ number_of outcome }
+// The areas that a caller lends: for the times, the levels and the codes of a chain.
+#[derive(Drop)]
+pub struct Areas<'a> {
+    pub times: &'a mut [i64],
+    pub levels: &'a mut [u8],
+    pub chain: &'a mut [u16],
+}
+
+// The number of document 01, section 3, as C takes it.
+pub fn number_of(answer: Result<Outcome, Refusal>) -> u8
+    ensures { result ≡ number_of answer }
 {
-    match outcome {
-        Outcome::Solved(_) => SOLVED,
-        Outcome::NoTimetable(_) => NO_TIMETABLE,
-        Outcome::Refused(number, _) => number,
+    match answer {
+        Ok(Outcome::Solved(_)) => SOLVED,
+        Ok(Outcome::NoTimetable(_)) => NO_TIMETABLE,
+        Err(refusal) => u8::from(refusal.fault),
     }
 }
 
 // The place that goes with it.
-pub fn place_in(outcome: Outcome) -> usize
-    ensures { result ≡ place_of outcome }
+pub fn place_in(answer: Result<Outcome, Refusal>) -> usize
+    ensures { result ≡ place_of answer }
 {
-    match outcome {
-        Outcome::Solved(wishes) => wishes,
-        Outcome::NoTimetable(steps) => steps,
-        Outcome::Refused(_, line) => line,
+    match answer {
+        Ok(Outcome::Solved(wishes)) => wishes,
+        Ok(Outcome::NoTimetable(steps)) => steps,
+        Err(refusal) => refusal.line,
     }
 }
 
 // The outcome of a plan in memory, with the latest times or the earliest. Nothing is written before it is known.
-pub fn settle(
-    h: Plan,
-    held: &[u8],
-    side: Side,
-    times: &mut [i64],
-    levels: &mut [u8],
-    chain: &mut [u16],
-) -> Outcome
-    requires { Settling h held.now times.old levels.old chain.old }
-    ensures { (p : M.Plan) → InMemory p h held.now
-        → Settled side p (areas times.old levels.old chain.old)
-        (areas times.new levels.new chain.new) result }
+pub fn settle(plan: &Loaded, side: Side, areas: &mut Areas) -> Outcome
+    requires { long_enough (lent areas.old) ≡ true }
+    ensures outcome { Settled side plan.now (lent areas.old) (lent areas.new) result }
+    ensures same { SameAreas areas.old areas.new }
 {
-    let n = h.events;
-    let base = 2 * (n - 1);
-    let all = base + 2 * h.count;
-    let list = bounds::list_of(h, held);
-    let mut d = [0; ENTRIES];
-    distances::start(&mut d, n, h.horizon);
-    let m = bounds::try_all(list, base, all, &mut d, n);
-    if m < all {
-        return Outcome::NoTimetable(chain::chain_of(list, m, &d, chain));
+    let mut bounds = Bounds::none();
+    bounds::list_of(plan, &mut bounds);
+    let list = bounds.listed();
+    let mut d = Matrix::none();
+    d.start(plan.plan.events, plan.plan.horizon);
+    if let Err(m) = bounds::try_all(list, bounds.horizon, &mut d) {
+        let steps = chain::chain_of(&list[..m], list[m], &d, areas.chain);
+        return Outcome::NoTimetable(steps);
     }
-    let count = ladder::climb(&mut d, h, held, levels);
-    distances::outermost(&d, n, side, times);
+    let count = ladder::climb(&mut d, plan, areas.levels);
+    d.outermost(side, areas.times);
     Outcome::Solved(count)
 }

@@ -8,14 +8,14 @@ use Prim.Native.Nat.{ℕ, suc, ◌+◌, ◌*◌, ◌-◌, ◌/◌, ◌%◌, ◌�
 use native.Mathlib.Decide.{dec_lt}
 use native.Mathlib.Numerals.{add-one}
 use native.Mathlib.Omega.{arith}
-use lib.Dec.{T, eqb, ltb}
-use lib.IntN.{ℤ, pos, negsuc, neg_ℤ, nat_abs, ◌+ℤ◌, ◌-ℤ◌, +ℤ_idr}
+use lib.Dec.{eqb, ltb}
+use lib.IntN.{ℤ, pos, negsuc, neg_ℤ, nat_abs, ◌+ℤ◌, +ℤ_idr}
 use lib.ListN.{length, length-map, length-take, get_or, take, get_or-eq_default}
-use lib.Seq.{take-suc, take_all}
-use lib.Signed.{◌<ℤ◌, non_neg}
+use lib.Seq.{take-suc}
+use lib.Signed.{◌<ℤ◌}
 use mir.Syntax.{w64}
 use mir.Val.{SFits}
-use Rattle.ticks.proofs.Ticks.{ticks, sum, neg}
+use Rattle.ticks.proofs.Ticks.{ticks}
 use Rattle.meaning.specs.Plan.{Plan, Within, nothing, record_at, most_events, most_end}
 use Rattle.meaning.specs.Bounds.{Bound, horizon_codes, upper, lower, horizon_upper, horizon_lower, total}
 use Rattle.meaning.specs.Faultless.{WithoutFault}
@@ -67,33 +67,13 @@ pub along_fits : {p : Plan} → WithoutFault p → (cs : List ℕ) → length cs
 along_fits {p} w cs l i =
     sum_fits w64 (omega arith) most_events (omega arith) (along p cs i) (sum_near w (take i cs) (omega (arith, l, length-take i cs)))
 
--- one more, and all
+-- one more
 pub along_more : (p : Plan) (cs : List ℕ) (i : ℕ) → i < length cs → along p cs (i + 1) ≡ along p cs i +ℤ (named p (get_or cs i 0)).weight
 along_more p cs i l =
     rw (add-one i, take-suc cs i 0 l, map-append (named p) (take i cs) (get_or cs i 0 ∷ []), total_join, +ℤ_idr (named p (get_or cs i 0)).weight)
 
-pub along_all : (p : Plan) (cs : List ℕ) (i : ℕ) → length cs ≤ i → along p cs i ≡ total (map (named p) cs)
-along_all p cs i l = rw (take_all i cs l)
-
 -- ---- what a sum below zero lacks
 
-module _ (z : ℤ) where
-  pub lack_fits : Within (neg_ℤ (pos (most_events * most_end))) z (pos (most_events * most_end)) → SFits w64 (pos 0 -ℤ z)
-  lack_fits h =
-      let below = sum (pos 0) (neg_ℤ z) in
-      sum_fits w64 (omega arith) most_events (omega arith) (pos 0 -ℤ z)
-      (record { above = omega (ticks, h.below, below, neg z); below = omega (ticks, h.above, below, neg z) })
-
-  pub lack_natural : z <ℤ pos 0 → T (non_neg (pos 0 -ℤ z))
-  lack_natural h = natural z h
-    where
-      natural : (x : ℤ) → x <ℤ pos 0 → T (non_neg (pos 0 -ℤ x))
-      natural (pos n) l = absurd (omega ticks)
-      natural (negsuc n) l = tt
-
-  pub lack_is : z <ℤ pos 0 → (s : ℕ) → s ≡ nat_abs (pos 0 -ℤ z) → (z ≡ neg_ℤ (pos s)) × (1 ≤ s)
-  lack_is h s e = lack z h e
-    where
-      lack : (x : ℤ) → x <ℤ pos 0 → s ≡ nat_abs (pos 0 -ℤ x) → (x ≡ neg_ℤ (pos s)) × (1 ≤ s)
-      lack (pos n) l q = absurd (omega ticks)
-      lack (negsuc n) l q = let e : s ≡ suc n = omega (arith, q) in rw e (refl, omega arith)
+pub lack_is : (z : ℤ) → z <ℤ pos 0 → (s : ℕ) → s ≡ nat_abs z → (z ≡ neg_ℤ (pos s)) × (1 ≤ s)
+lack_is (pos n) l s q = absurd (omega ticks)
+lack_is (negsuc n) l s q = let e : s ≡ suc n = omega (arith, q) in rw e (refl, omega arith)

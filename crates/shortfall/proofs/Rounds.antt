@@ -15,7 +15,7 @@ use lib.Signed.{◌≤ℤ◌, ◌<ℤ◌}
 use Rattle.ticks.proofs.Ticks.{ticks, neg}
 use Rattle.eventset.specs.Sets.{member, put_in}
 use Rattle.eventset.proofs.Laws.{put_same, put_other, none_member}
-use Rattle.meaning.specs.Plan.{Plan, most_events}
+use Rattle.meaning.specs.Plan.{Plan}
 use Rattle.meaning.specs.Bounds.{Bound, Leads, stop, step, total, distinct, ends, Chain}
 use Rattle.meaning.specs.Faultless.{WithoutFault}
 use Rattle.meaning.specs.Short.{ShortBy}
@@ -164,11 +164,8 @@ module _ {p : Plan} {cs : List ℕ} where
   all_coded : (c : Chain p cs) → length cs ≡ length c.steps
   all_coded c = ap length (sym c.coded) ∙ length-map c.steps (λ b. b.code)
 
-  pub none_empty : length cs ≡ 0 → Chain p cs → ⊥
-  none_empty e c = omega (arith, e, all_coded c, c.two)
-
-  pub none_long : WithoutFault p → most_events < length cs → Chain p cs → ⊥
-  none_long w l c = omega (arith, l, all_coded c, c.most, w.most)
+  pub none_long : p.events < length cs → Chain p cs → ⊥
+  none_long l c = omega (arith, l, all_coded c, c.most)
 
   pub none_apart : WithoutFault p → leads_round p cs ≡ false → Chain p cs → ⊥
   none_apart w h c = true≢false (sym (chain_round w c).0 ∙ h)

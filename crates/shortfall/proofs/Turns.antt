@@ -1,10 +1,9 @@
 -- The turns of a walk along codes, one law for each way that a turn ends: before each, what is left of the codes decides as all of them do.
 -- Where a code is one of the plan its bound ends at an event that a set can have.
-use mathlib.Core.Path.{◌≡◌, refl}
+use mathlib.Core.Path.{◌≡◌}
 use mathlib.Core.Bool.{true, false}
-use mathlib.Core.List.{List, [], ◌∷◌}
+use mathlib.Core.List.{List, ◌∷◌}
 use Prim.Native.Nat.{ℕ, ◌+◌, ◌≤◌, ◌<◌}
-use native.Mathlib.Nat.{not-suc-le-zero}
 use native.Mathlib.Numerals.{add-one}
 use native.Mathlib.Omega.{arith}
 use lib.Dec.{eqb}
@@ -25,10 +24,6 @@ code_inside {p} w c h = omega (arith, (bound_placed p w (named p c) (code_named 
 -- the codes before number i are passed: from `at`, with the events of `seen` entered, those that are left decide as all of them do
 pub record Passed (p : Plan) (cs : List ℕ) (from at seen i : ℕ) : Type 0 where
   pub same : goes_on p from at seen (drop i cs) ≡ leads_round p cs
-
-pub pass_start : (p : Plan) (cs : List ℕ) → 1 ≤ length cs → let from = (named p (get_or cs 0 0)).start in Passed p cs from from 0 0
-pass_start p [] l = absurd (not-suc-le-zero l)
-pass_start p (c ∷ cs) l = record { same = refl }
 
 module _ {p : Plan} {cs : List ℕ} {from at seen i : ℕ} (w : Passed p cs from at seen i) where
   -- none is left

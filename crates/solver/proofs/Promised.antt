@@ -6,6 +6,7 @@ use mathlib.Core.Bool.{true}
 use mathlib.Core.List.{List, Memᴰ}
 use Prim.Native.Nat.{ℕ, ◌≤◌, ◌<◌}
 use lib.Signed.{◌≤ℤ◌}
+use Rattle.std.specs.Prelude.{Result}
 use Rattle.meaning.specs.Plan.{Plan, Times, Timetable}
 use Rattle.meaning.specs.Bounds.{Chain}
 use Rattle.meaning.specs.Outcome.{number, place, at, Areas, long_enough}
@@ -20,9 +21,9 @@ use Rattle.meaning.proofs.Idle.{known_plans, refuses_no_plan, counts_steps}
 use Rattle.meaning.proofs.Short.{none_short}
 use Rattle.scope.specs.declared.Side.{Side}
 use Rattle.scope.specs.declared.Side.TheVariants.{Latest, Earliest}
-use Rattle.reader.specs.declared.Answer.{Answer}
-use Rattle.settle.specs.declared.Outcome.{Outcome as Found}
-use Rattle.settle.specs.Settled.{number_of, place_of, named}
+use Rattle.scope.specs.declared.Refusal.{Refusal}
+use Rattle.plan.specs.declared.Plan.{Plan as Memory}
+use Rattle.settle.specs.Settled.{Answer as Found, number_of, place_of, named}
 use Rattle.solver.specs.Solves.{ReadInto, Solves}
 
 -- ---- one answer only
@@ -45,8 +46,8 @@ one_answer {x = x} {y} {q} {r} a b = go (one_promise a.promise b.promise)
         by (inr e) = inr (a.variant ∙ ap₂ named g.others.numbers e.0 ∙ sym b.variant, e.1)
 
 -- the same for what the reader said of a text
-pub one_outcome_of : {s : Side} {text held : List ℕ} {answer : Answer} {before x y : Areas} {q r : Found} → ReadInto text held answer →
-    ((t : List ℕ) → ReadInto t held answer → Solves s t before x q) → ((t : List ℕ) → ReadInto t held answer → Solves s t before y r) → OneAnswer x y q r
+pub one_outcome_of : {s : Side} {text held : List ℕ} {said : Result Memory Refusal} {before x y : Areas} {q r : Found} → ReadInto text held said →
+    ((t : List ℕ) → ReadInto t held said → Solves s t before x q) → ((t : List ℕ) → ReadInto t held said → Solves s t before y r) → OneAnswer x y q r
 one_outcome_of {text} h a b = one_answer (a text h) (b text h)
 
 -- ---- asking for the earliest changes nothing but the times, and no time becomes greater

@@ -7,7 +7,10 @@ ghost use Rattle.meaning.specs.Reading.{read};
 ghost use Rattle.meaning.specs.Short.{ShortIn};
 ghost use Rattle.scope.specs.declared.Side.TheVariants.{Latest, Earliest};
 
-// With the latest times.
+use scope::Side;
+use settle::Areas;
+
+// With the latest times. C has a function for each side.
 #[unsafe(no_mangle)]
 pub extern "C" fn timetable_solve(
     text: &[u8],
@@ -19,7 +22,12 @@ pub extern "C" fn timetable_solve(
     ensures { Promise Latest text.now (areas times.old levels.old chain.old)
         (areas times.new levels.new chain.new) result place.new }
 {
-    solver::timetable_solve(text, times, levels, chain, place)
+    let mut areas = Areas {
+        times,
+        levels,
+        chain,
+    };
+    solver::number_on(text, Side::Latest, &mut areas, place)
 }
 
 // With the earliest times.
@@ -34,7 +42,12 @@ pub extern "C" fn timetable_solve_earliest(
     ensures { Promise Earliest text.now (areas times.old levels.old chain.old)
         (areas times.new levels.new chain.new) result place.new }
 {
-    solver::timetable_solve_earliest(text, times, levels, chain, place)
+    let mut areas = Areas {
+        times,
+        levels,
+        chain,
+    };
+    solver::number_on(text, Side::Earliest, &mut areas, place)
 }
 
 // By how many ticks a chain falls short in the plan of a text; 0 where the text is refused, or the codes are no chain of its plan.

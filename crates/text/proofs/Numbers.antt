@@ -1,66 +1,30 @@
--- A number: what its first byte says of the value and of the place where reading stops, and how large it is.
+-- A number: what its first byte says of the value and of the place where reading stops, and how large they are.
 use Prim.Native.Nat.{ℕ, suc, ◌+◌, ◌-◌, ◌*◌, ◌^◌, ◌≤◌, ◌<◌}
 use mathlib.Core.Path.{◌≡◌, refl}
 use mathlib.Core.Bool.{Bool, true, false, cond, ◌&&◌, not}
-use mathlib.Core.Option.{Option, none, some}
+use mathlib.Core.Option.{none, some}
 use mathlib.Core.List.{List, [], ◌∷◌}
 use native.Mathlib.Nat.{pow-le-pow_right, add-zero, zero-add}
 use native.Mathlib.Omega.{arith}
-use borrow.Author.Tests.{eq-eqb, ne_eqb, leb-true}
-use lib.Dec.{leb}
-use lib.ListN.{length, get_or}
-use lib.Seq.{slice, slice_empty}
-use lib.IntN.{ℤ, pos, neg_ℤ}
+use borrow.Author.Tests.{leb-true, ltb-false}
+use lib.Dec.{leb, ltb, eqb}
+use lib.ListN.{length, get_or, drop}
+use Rattle.std.proofs.lemmas.Bool.Decides.{nat_tests}
 use Rattle.meaning.specs.Reading.{is_digit, run_from, digits_of, leading_zero, number_of, minus, plus}
-use Rattle.text.specs.Number.{number_stop, digits_stop, says_zero}
-use Rattle.meaning.proofs.Slices.{slice_step}
+use Rattle.text.specs.Number.{number_stop, digits_stop, run_stop, says_zero}
 
--- ---- the value and the stop, by the first byte and what the digits say
+-- ---- by the first byte
 
--- an answer for the bytes from at up to e
-pub record Answer (s : List ℕ) (at e : ℕ) (value : Option ℤ) (place : ℕ) : Type 0 where
-  pub said : value ≡ number_of (slice at e s)
-  pub stopped : place ≡ at + number_stop (slice at e s)
+pub number_is : (f : List ℕ) → number_of f ≡ cond (eqb (get_or f 0 0) 45) (minus (digits_of (drop 1 f))) (plus (digits_of f))
+unfolding number_of digits_of
+number_is [] = refl
+number_is (x ∷ xs) = refl
 
-pub no_byte : (s : List ℕ) (at e : ℕ) → at ≡ e → Answer s at e none at
-unfolding number_of number_stop
-no_byte s at e q = record { said = rw (q, slice_empty e s); stopped = rw (q, slice_empty e s) (omega arith) }
-
-module _ (s : List ℕ) (at e : ℕ) (k : e ≤ length s) (h : at < e) (p : get_or s at 0 ≡ 45) where
-  of_minus : number_of (slice at e s) ≡ minus (digits_of (slice (at + 1) e s))
-  unfolding number_of
-  of_minus = rw (slice_step s at e h k, eq-eqb (get_or s at 0) 45 p)
-
-  stop_minus : number_stop (slice at e s) ≡ suc (cond (says_zero (digits_of (slice (at + 1) e s))) 0 (digits_stop (slice (at + 1) e s)))
-  unfolding number_stop
-  stop_minus = rw (slice_step s at e h k, eq-eqb (get_or s at 0) 45 p)
-
-  pub minus_zero : (v : ℕ) → some v ≡ digits_of (slice (at + 1) e s) → v ≡ 0 → Answer s at e none (at + 1)
-  minus_zero v d z =
-      record { said = rw (of_minus, ← d, eq-eqb v 0 z); stopped = omega (arith, rw (← d, eq-eqb v 0 z) at stop_minus) }
-
-  pub minus_value : (v place : ℕ) → some v ≡ digits_of (slice (at + 1) e s) → place ≡ at + 1 + digits_stop (slice (at + 1) e s) → (v ≡ 0 → ⊥)
-      → Answer s at e (some (neg_ℤ (pos v))) place
-  minus_value v place d q z =
-      record { said = rw (of_minus, ← d, ne_eqb v 0 z); stopped = omega (arith, rw (← d, ne_eqb v 0 z) at stop_minus) }
-
-  pub minus_none : (place : ℕ) → none ≡ digits_of (slice (at + 1) e s) → place ≡ at + 1 + digits_stop (slice (at + 1) e s) → Answer s at e none place
-  minus_none place d q = record { said = rw (of_minus, ← d); stopped = omega (arith, rw (← d) at stop_minus) }
-
-module _ (s : List ℕ) (at e : ℕ) (k : e ≤ length s) (h : at < e) (p : get_or s at 0 ≡ 45 → ⊥) where
-  of_plus : number_of (slice at e s) ≡ plus (digits_of (slice at e s))
-  unfolding number_of
-  of_plus = rw (slice_step s at e h k, ne_eqb (get_or s at 0) 45 p)
-
-  stop_plus : number_stop (slice at e s) ≡ digits_stop (slice at e s)
-  unfolding number_stop
-  stop_plus = rw (slice_step s at e h k, ne_eqb (get_or s at 0) 45 p)
-
-  pub plus_value : (v place : ℕ) → some v ≡ digits_of (slice at e s) → place ≡ at + digits_stop (slice at e s) → Answer s at e (some (pos v)) place
-  plus_value v place d q = record { said = rw (of_plus, ← d); stopped = omega (arith, stop_plus) }
-
-  pub plus_none : (place : ℕ) → none ≡ digits_of (slice at e s) → place ≡ at + digits_stop (slice at e s) → Answer s at e none place
-  plus_none place d q = record { said = rw (of_plus, ← d); stopped = omega (arith, stop_plus) }
+pub number_stop_is : (f : List ℕ) → number_stop f
+    ≡ cond (eqb (get_or f 0 0) 45) (suc (cond (says_zero (digits_of (drop 1 f))) 0 (digits_stop (drop 1 f)))) (digits_stop f)
+unfolding number_stop digits_stop
+number_stop_is [] = refl
+number_stop_is (x ∷ xs) = refl
 
 -- ---- how large
 
@@ -72,7 +36,7 @@ is_digit_le x q = go (leb 48 x) refl (leb x 57) refl q
     go true p false r t = let z : ◌≡◌ {A = ℕ} 0 1 = cc in omega arith
     go false p b r t = let z : ◌≡◌ {A = ℕ} 0 1 = cc in omega arith
 
-pub run_small : (f : List ℕ) (v n w : ℕ) → v < 10 ^ n → run_from v f ≡ some w → w < 10 ^ (n + length f)
+run_small : (f : List ℕ) (v n w : ℕ) → v < 10 ^ n → run_from v f ≡ some w → w < 10 ^ (n + length f)
 run_small [] v n w h q = let e : v ≡ w = cc in rw (add-zero) (omega arith)
 run_small (x ∷ xs) v n w h q = go (λ (a b : ℕ). run_small xs a b w) (is_digit x) refl q
   where
@@ -94,3 +58,23 @@ digits_small f w q = go (leb 1 (length f)) (leb (length f) 7) refl (not (leading
     go true true p false t = let z : ◌≡◌ {A = ℕ} 0 1 = cc in omega arith
     go true false p d t = let z : ◌≡◌ {A = ℕ} 0 1 = cc in omega arith
     go false b p d t = let z : ◌≡◌ {A = ℕ} 0 1 = cc in omega arith
+
+-- a run stops inside it
+run_stop_le : (f : List ℕ) → run_stop f ≤ length f
+run_stop_le [] = omega arith
+run_stop_le (x ∷ xs) = go (run_stop_le xs) (is_digit x)
+  where
+    go : run_stop xs ≤ length xs → (b : Bool) → cond b (suc (run_stop xs)) 0 ≤ suc (length xs)
+    go ih true = omega arith
+    go ih false = omega arith
+
+pub stop_small : (f : List ℕ) → digits_stop f ≤ 7
+unfolding digits_stop
+stop_small f = go (ltb 7 (length f)) refl (leading_zero f)
+  where
+    go : (a : Bool) → ltb 7 (length f) ≡ a → (b : Bool) → cond a 7 (cond b 1 (run_stop f)) ≤ 7
+    go true p b = omega arith
+    go false p true = omega arith
+    go false p false = omega (arith, run_stop_le f, ltb-false 7 (length f) p)
+
+pub ruleset number_rules = (nat_tests, number_is, number_stop_is, digits_small, stop_small)

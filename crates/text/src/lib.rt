@@ -1,129 +1,69 @@
-// Numbers and words read from a slice of bytes: what stands from `at` up to `end`.
+// Numbers and words read from a slice of bytes.
 #![tactic(auto)]
 
-ghost use Rattle.std.specs.Prelude.{◌≡◌, ◌+◌, ◌≤◌, length};
-ghost use Rattle.std.proofs.Math.Seq.{slice};
-ghost use Rattle.text.specs.Bytes.{until};
-ghost use Rattle.meaning.specs.Reading.{same, run_from, digits_of};
+ghost use Rattle.std.specs.Prelude.{◌≡◌, ◌==◌, ◌≤◌, length, position};
+ghost use Rattle.meaning.specs.Reading.{run_from, digits_of};
 ghost use Rattle.text.specs.Words.{word_of};
-ghost use Rattle.text.specs.Answers.{digits_as, digits_place, NumberRead};
+ghost use Rattle.text.specs.Answers.{read_as, stopped_at, NumberRead};
 ghost use Rattle.text.specs.Number.{run_stop, digits_stop};
 
-// The place of the first byte b of s from at up to end; end where there is none.
-pub fn find(s: &[u8], at: usize, end: usize, b: u8) -> usize
-    requires { (at ≤ end) × (end ≤ length s.now) }
-    ensures { result ≡ at + until b (slice at end s.now) }
+use widths::Width;
+
+// The place of the first byte b.
+pub fn find(s: &[u8], b: u8) -> Option<usize>
+    ensures { result ≡ position (λ x. x == b) s.now }
 {
-    let mut place = at;
-    while place < end && s[place] != b {
-        place += 1;
-    }
-    place
+    s.iter().position(|x| *x == b)
 }
 
 // The digits of a number are 1 to 7.
 const MOST_DIGITS: usize = 7;
 
-// What a run of digits says: its value, or the place where reading stopped.
-#[derive(Clone, Copy)]
-enum Digits {
-    Value(usize),
-    Stopped(usize),
-}
-
-// The value of at most that many digits.
-fn digit_run(s: &[u8], at: usize, end: usize) -> Digits
-    requires { (at ≤ end) × (end ≤ length s.now) × (end ≤ at + 7) }
-    ensures { (digits_as result ≡ run_from 0 (slice at end s.now)) × (digits_place end result ≡ at + run_stop (slice at end s.now)) }
+// The value of at most that many digits, or the place where reading stopped.
+fn digit_run(digits: &[u8]) -> Result<usize, usize>
+    requires { length digits.now ≤ 7 }
+    ensures { (read_as result ≡ run_from 0 digits.now) × (stopped_at (length digits.now) result ≡ run_stop digits.now) }
 {
     let mut v = 0;
-    let mut i = at;
-    while i < end {
-        let b = s[i];
-        if b < b'0' {
-            return Digits::Stopped(i);
+    for (i, b) in digits.iter().enumerate() {
+        if !b.is_ascii_digit() {
+            return Err(i);
         }
-        if b'9' < b {
-            return Digits::Stopped(i);
-        }
-        v = v * 10 + widths::from_u8(b - b'0');
-        i += 1;
+        v = v * 10 + usize::from(*b - b'0');
     }
-    Digits::Value(v)
+    Ok(v)
 }
 
 // The digits of a number, with no leading zero except in 0 itself.
-fn read_digits(s: &[u8], at: usize, end: usize) -> Digits
-    requires { (at ≤ end) × (end ≤ length s.now) }
-    ensures { (digits_as result ≡ digits_of (slice at end s.now)) × (digits_place end result ≡ at + digits_stop (slice at end s.now)) }
+#[tactic(auto, using(crate::proofs::Runs::digit_rules), unfolding(crate::specs::Number::digits_stop, meaning::specs::Reading::digits_of))]
+fn read_digits(digits: &[u8]) -> Result<usize, usize>
+    ensures { (read_as result ≡ digits_of digits.now) × (stopped_at (length digits.now) result ≡ digits_stop digits.now) }
 {
-    let n = end - at;
-    if n < 1 {
-        return Digits::Stopped(at);
+    match digits {
+        [] => Err(0),
+        _ if MOST_DIGITS < digits.len() => Err(MOST_DIGITS),
+        [b'0', rest @ ..] if !rest.is_empty() => Err(1),
+        _ => digit_run(digits),
     }
-    if MOST_DIGITS < n {
-        return Digits::Stopped(at + MOST_DIGITS);
-    }
-    if s[at] == b'0' {
-        if 1 < n {
-            return Digits::Stopped(at + 1);
-        }
-    }
-    digit_run(s, at, end)
 }
 
 // A number of section 2, or the place where reading stopped.
-#[derive(Clone, Copy)]
-pub enum Number {
-    Value(i32),
-    Stopped(usize),
-}
-
-pub fn read_number(s: &[u8], at: usize, end: usize) -> Number
-    requires { (at ≤ end) × (end ≤ length s.now) }
-    ensures { NumberRead s.now at end result }
+#[tactic(auto, using(crate::proofs::Numbers::number_rules))]
+pub fn read_number(field: &[u8]) -> Result<i32, usize>
+    ensures { NumberRead field.now result }
 {
-    if at == end {
-        return Number::Stopped(at);
-    }
-    if s[at] == b'-' {
-        match read_digits(s, at + 1, end) {
-            Digits::Value(v) => {
-                if v == 0 {
-                    Number::Stopped(at + 1)
-                } else {
-                    Number::Value(ticks::minus(widths::to_i32(v)))
-                }
-            }
-            Digits::Stopped(p) => Number::Stopped(p),
-        }
-    } else {
-        match read_digits(s, at, end) {
-            Digits::Value(v) => Number::Value(widths::to_i32(v)),
-            Digits::Stopped(p) => Number::Stopped(p),
-        }
+    match field {
+        [b'-', digits @ ..] => match read_digits(digits) {
+            Ok(v) if v == 0 => Err(1),
+            Ok(v) => Ok(-i32::of(v)),
+            Err(place) => Err(place + 1),
+        },
+        _ => Ok(i32::of(read_digits(field)?)),
     }
 }
 
-// The field from at up to end is the word w.
-pub fn is_word(s: &[u8], at: usize, end: usize, w: &[u8]) -> bool
-    requires { (at ≤ end) × (end ≤ length s.now) }
-    ensures { result ≡ same (slice at end s.now) w.now }
-{
-    if end - at != w.len() {
-        return false;
-    }
-    let mut i = 0;
-    while i < w.len() {
-        if s[at + i] != w[i] {
-            return false;
-        }
-        i += 1;
-    }
-    true
-}
-
-#[derive(Clone, Copy)]
+// The word of a line. One that is none of the three is a kind of line too: it is refused only after its numbers.
+#[derive(Clone, Copy, PartialEq, Eq)]
 pub enum Word {
     Events,
     Rule,
@@ -131,18 +71,17 @@ pub enum Word {
     Other,
 }
 
-pub fn read_word(s: &[u8], at: usize, end: usize) -> Word
-    requires { (at ≤ end) × (end ≤ length s.now) }
-    ensures { result ≡ word_of (slice at end s.now) }
+#[tactic(auto, using(crate::proofs::Sames::same_is), unfolding(crate::specs::Words::word_of))]
+pub fn read_word(field: &[u8]) -> Word
+    ensures { result ≡ word_of field.now }
 {
-    if is_word(s, at, end, b"events") {
-        return Word::Events;
+    if field == b"events".as_slice() {
+        Word::Events
+    } else if field == b"rule".as_slice() {
+        Word::Rule
+    } else if field == b"wish".as_slice() {
+        Word::Wish
+    } else {
+        Word::Other
     }
-    if is_word(s, at, end, b"rule") {
-        return Word::Rule;
-    }
-    if is_word(s, at, end, b"wish") {
-        return Word::Wish;
-    }
-    Word::Other
 }

@@ -1,2 +1,2 @@
--- What the contracts of `ticks` cite.
+-- What the definitions of distances cite.
 pub mod Min

@@ -2,7 +2,6 @@
 // text cannot be read whole it prints nothing, and says why on standard error; so it does where the outcome cannot be written whole.
 #![tactic(auto)]
 
-use intake::Text;
 use scope::Side;
 use std::fs::{File, OpenFile};
 use std::io::{ErrorKind, Write};
@@ -18,51 +17,41 @@ const OUTPUT: &str = "/dev/stdout";
 // The side that the first word asks for. One that is missing, or longer than each that asks for something, comes as the empty word.
 fn side_asked(rt: &impl Env) -> Side {
     let mut word = [0u8; asked::LONGEST];
-    match rt.arg(1, &mut word) {
-        Ok(n) => asked::side_of(&word[..n]),
-        Err(_) => asked::side_of(b""),
-    }
+    let n = rt.arg(1, &mut word).unwrap_or(0);
+    asked::side_of(&word[..n])
 }
 
 // An error's form without the number that stands behind the system's words.
 fn words_of(form: &str) -> &str {
-    match form.split_once(" (os error ") {
-        Some((words, _)) => words,
-        None => form,
-    }
+    form.split_once(" (os error ")
+        .map_or(form, |(words, _)| words)
 }
 
 // Says on standard error why a stream failed. Where that cannot be written either, nobody is left to tell.
 fn fail(rt: &(impl Eprint + AllocGlobal), stream: &str, why: io::Error) {
-    let said = match format!(in rt.alloc(); "{why}") {
+    let _ = match format!(in rt.alloc(); "{why}") {
         Ok(form) => eprintln!(rt; "{stream}: {}", words_of(&form)),
         Err(_) => eprintln!(rt; "{stream}: {why}"),
     };
-    let _ = said;
 }
 
 // What a file's disk says once all is written. A file that is on none has nothing to say.
 fn said_of(disk: io::Result<()>) -> io::Result<()> {
-    match disk {
-        Ok(()) => Ok(()),
-        Err(why) => match why.kind() {
-            ErrorKind::InvalidInput | ErrorKind::ReadOnlyFilesystem | ErrorKind::Unsupported => {
-                Ok(())
-            }
-            _ => Err(why),
-        },
-    }
+    disk.or_else(|why| match why.kind() {
+        ErrorKind::InvalidInput | ErrorKind::ReadOnlyFilesystem | ErrorKind::Unsupported => Ok(()),
+        _ => Err(why),
+    })
 }
 
 // A disk may say only later that it is full: where the output is a file, its answer is waited for. One that cannot be opened again is not asked.
 fn settled(rt: &impl Files) -> io::Result<()> {
-    match fs::metadata(rt, OUTPUT) {
-        Ok(found) if found.is_file() => match File::options().write(true).open(rt, OUTPUT) {
-            Ok(file) => said_of(file.sync_all()),
-            Err(_) => Ok(()),
-        },
-        _ => Ok(()),
+    if !fs::metadata(rt, OUTPUT).is_ok_and(|found| found.is_file()) {
+        return Ok(());
     }
+    let Ok(file) = File::options().write(true).open(rt, OUTPUT) else {
+        return Ok(());
+    };
+    said_of(file.sync_all())
 }
 
 // Writes the outcome whole.
@@ -75,16 +64,15 @@ fn put(rt: &(impl Print + Files), form: &[u8]) -> io::Result<()> {
 fn print(rt: &HostRuntime, text: &[u8], side: Side) {
     let mut out = [0u8; forms::AREA];
     let m = report::answer(text, side, &mut out);
-    match put(rt, &out[..m]) {
-        Ok(()) => (),
-        Err(why) => fail(rt, "standard output", why),
+    if let Err(why) = put(rt, &out[..m]) {
+        fail(rt, "standard output", why);
     }
 }
 
 fn main(rt: HostRuntime) {
     let mut text = [0u8; ENOUGH];
     match intake::read_text(&mut rt.stdin(), &mut text) {
-        Text::Whole(n) => print(&rt, &text[..n], side_asked(&rt)),
-        Text::Failed(why) => fail(&rt, "standard input", why),
+        Ok(n) => print(&rt, &text[..n], side_asked(&rt)),
+        Err(why) => fail(&rt, "standard input", why),
     }
 }

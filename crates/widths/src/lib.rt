@@ -1,90 +1,116 @@
-// One number in another width: every cast of the tree stands here. Each is inlined; its contract says that the number is the same.
+// A number in another width, where the language's own conversions do not reach: a cast that is proved to lose nothing, with the number that comes of it.
 #![tactic(auto)]
 
-ghost use Rattle.std.specs.Prelude.{◌≡◌, ◌<◌, T, pos, nat_abs};
+ghost use Rattle.std.specs.Prelude.{◌≡◌, ◌<◌, ◌^◌, ℕ, Bool, true, T, pos, nat_abs};
 ghost use Rattle.std.specs.Int.Signed.{non_neg};
 
-// Up to `usize`, where each fits.
-pub fn from_u8(byte: u8) -> usize
-    ensures { result ≡ byte }
-{
-    byte as usize
+// An integer type that numbers go down to from `usize`.
+pub trait Width {
+    // The value that a number is, and the first number that is none.
+    ghost put: { ℕ → Self };
+
+    ghost limit: { ℕ };
+
+    fn of(n: usize) -> Self
+        requires { n < limit }
+        ensures { result ≡ put n };
+
+    // No two numbers are one value.
+    ghost one: { (m n : ℕ) → put m ≡ put n → m ≡ n };
 }
 
-pub fn from_u16(short: u16) -> usize
-    ensures { result ≡ short }
-{
-    short as usize
+impl Width for u8 {
+    ghost put = { λ n. n };
+
+    ghost limit = { 2 ^ 8 };
+
+    ghost one = { λ m n e. e };
+
+    fn of(n: usize) -> u8 {
+        n as u8
+    }
 }
 
-pub fn from_u32(word: u32) -> usize
-    ensures { result ≡ word }
-{
-    word as usize
+impl Width for u16 {
+    ghost put = { λ n. n };
+
+    ghost limit = { 2 ^ 16 };
+
+    ghost one = { λ m n e. e };
+
+    fn of(n: usize) -> u16 {
+        n as u16
+    }
 }
 
-// Down from `usize`, for a number that fits.
-pub fn to_u8(n: usize) -> u8
-    requires { n < 256 }
-    ensures { result ≡ n }
-{
-    n as u8
+impl Width for u32 {
+    ghost put = { λ n. n };
+
+    ghost limit = { 2 ^ 32 };
+
+    ghost one = { λ m n e. e };
+
+    fn of(n: usize) -> u32 {
+        n as u32
+    }
 }
 
-pub fn to_u16(n: usize) -> u16
-    requires { n < 65536 }
-    ensures { result ≡ n }
-{
-    n as u16
+impl Width for i32 {
+    ghost use mathlib.Core.Path.{ap};
+
+    ghost put = { pos };
+
+    ghost limit = { 2 ^ 31 };
+
+    ghost one = { λ m n e. ap nat_abs e };
+
+    fn of(n: usize) -> i32 {
+        n as i32
+    }
 }
 
-pub fn to_u32(n: usize) -> u32
-    requires { n < 4294967296 }
-    ensures { result ≡ n }
-{
-    n as u32
+impl Width for i64 {
+    ghost use mathlib.Core.Path.{ap};
+
+    ghost put = { pos };
+
+    ghost limit = { 2 ^ 63 };
+
+    ghost one = { λ m n e. ap nat_abs e };
+
+    fn of(n: usize) -> i64 {
+        n as i64
+    }
 }
 
-// A number without a sign as one with a sign, and back.
-pub fn to_i32(n: usize) -> i32
-    requires { n < 2147483648 }
-    ensures { result ≡ pos n }
-{
-    n as i32
+// An integer type whose values go over to `usize`, but for those below zero.
+pub trait Number {
+    // Whether a value is a number without a sign, and which.
+    ghost whole: { Self → Bool };
+
+    ghost held: { Self → ℕ };
+
+    fn number(self) -> usize
+        requires { T (whole self) }
+        ensures { result ≡ held self };
 }
 
-pub fn to_i64(n: usize) -> i64
-    requires { n < 9223372036854775808 }
-    ensures { result ≡ pos n }
-{
-    n as i64
+impl Number for u32 {
+    ghost whole = { λ _. true };
+
+    ghost held = { λ n. n };
+
+    fn number(self) -> usize {
+        self as usize
+    }
 }
 
-pub fn from_i32(signed: i32) -> usize
-    requires { T (non_neg signed) }
-    ensures { result ≡ nat_abs signed }
-{
-    signed as usize
-}
+impl Number for i32 {
+    ghost whole = { non_neg };
 
-pub fn from_i64(wide: i64) -> u64
-    requires { T (non_neg wide) }
-    ensures { result ≡ nat_abs wide }
-{
-    wide as u64
-}
+    ghost held = { nat_abs };
 
-// The same of a count that the system hands over.
-pub fn from_isize(count: isize) -> usize
-    requires { T (non_neg count) }
-    ensures { result ≡ nat_abs count }
-{
-    count as usize
-}
-
-// A signed number with more room.
-pub fn widen(narrow: i32) -> i64
-    ensures { result ≡ narrow }
-{
-    narrow as i64
+    fn number(self) -> usize {
+        self.unsigned_abs() as usize
+    }
 }

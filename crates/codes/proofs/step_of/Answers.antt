@@ -2,7 +2,7 @@
 use mathlib.Core.Path.{sym, ap, ◌∙◌}
 use Prim.Native.Nat.{ℕ}
 use Rattle.meaning.specs.Plan.{record_at}
-use Rattle.plan.specs.Held.{row_of}
+use Rattle.plan.specs.Held.{row_of, recalled}
 use Rattle.plan.proofs.Use.{row_at, held_row}
 use Rattle.cut.specs.Cut.{allowed}
 use Rattle.cut.proofs.Cuts.{cutting, ends_are}
@@ -10,16 +10,21 @@ use Rattle.codes.proofs.Names.{name_record, name_horizon}
 use Rattle.codes.proofs.step_of.Goals as goal
 
 pub ends_of-requires : goal.ends_of-requires
-ends_of-requires c = cutting c.requires.1 c.from_u16.result
+ends_of-requires c = cutting c.plan.invariant c.in-Record.k
 
-pub returns-then-c-lt-HORIZON_CODES : goal.returns-then-c-lt-HORIZON_CODES
-returns-then-c-lt-HORIZON_CODES c =
-    let s = c.args in
-    let k = c.from_u16.result in
-    λ p o.
-    let row = held_row o.holds k ∙ ap (λ (i : ℕ). row_of (row_at s.h k).first (record_at p i)) c.from_u16.ensures in
-    let own = c.ends_of.ensures ∙ ends_are o k ∙ ap (λ (i : ℕ). allowed (record_at p i)) c.from_u16.ensures in
-    c.of_record.ensures p _ row own ∙ sym (name_record p s.c c.if-c-lt-HORIZON_CODES.true)
+pub returns-in-Record : goal.returns-in-Record
+returns-in-Record c =
+    let o = c.plan.invariant in
+    let h = c.plan.inside.plan.now in
+    let p = recalled h c.plan.inside.levels.now in
+    let k = c.in-Record.k in
+    let owns = c.in-Record.ensures in
+    let row = held_row o.holds k ∙ ap (λ (i : ℕ). row_of (row_at h k).first (record_at p i)) owns.1 in
+    let own = c.ends_of.ensures ∙ ends_are o k ∙ ap (λ (i : ℕ). allowed (record_at p i)) owns.1 in
+    rw (← c.plan.view_is) (c.of_record.ensures p _ row own ∙ sym (name_record p c.args.c owns.0))
 
-pub returns : goal.returns
-returns c = λ p o. c.of_horizon.ensures p o.holds.horizon ∙ sym (name_horizon p c.args.c c.if-c-lt-HORIZON_CODES.false)
+pub returns-in-Event : goal.returns-in-Event
+returns-in-Event c =
+    let p = recalled c.plan.inside.plan.now c.plan.inside.levels.now in
+    let owns = c.in-Event.ensures in
+    rw (← c.plan.view_is) (c.of_horizon.ensures p c.plan.invariant.holds.horizon owns.0 owns.1 ∙ sym (name_horizon p c.args.c owns.0))

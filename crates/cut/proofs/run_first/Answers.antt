@@ -1,10 +1,20 @@
--- `cut::run_first` meets its contract: the run of the levels from here on begins where the run of all does.
+-- `cut::run_first` meets its contract: `position` passes over the levels below the grade.
+use mathlib.Core.Path.{refl, sym, ◌∙◌}
+use mathlib.Core.List.{List}
+use Prim.Native.Nat.{ℕ, ◌≤◌, ◌<◌}
 use native.Mathlib.Omega.{arith}
-use Rattle.cut.proofs.Looks.{first_here}
+use borrow.Author.Rules.{rules}
+use borrow.Author.Tests.{tests}
+use Rattle.std.proofs.lemmas.Iterator.{YieldsList-from_slice, IsFirst-from_position, index_from_first}
+use Rattle.meaning.specs.Run.{run_first}
+use Rattle.meaning.proofs.Runs.{first_found, first_passed}
 use Rattle.cut.proofs.run_first.Goals as goal
 
-pub returns-then-y-levels : goal.returns-then-y-levels
-returns-then-y-levels c =
-    let s = c.args in
-    let here = first_here s.levels.now c.loop-i.i s.end s.y c.loop-i-test.true c.requires.1 c.if-y-levels.true in
-    omega (arith, c.loop-i.invariant.same, here)
+pub returns : goal.returns
+returns c =
+    let y = c.args.y in
+    let ls = c.args.levels.now in
+    let first = IsFirst-from_position _ _ _ (λ x. y ≤ x) (λ x. x < y) c.position.ensures.ran (YieldsList-from_slice ls cc)
+    (λ x q k. search (rules, tests)) (λ x q k. search (rules, tests)) in
+    let passed = λ (x : ℕ) (xs : List ℕ) (h : x < y). first_passed y x xs h ∙ omega arith in
+    c.unwrap_or.ensures ∙ sym (index_from_first (run_first y) (λ x. y ≤ x) (λ x. x < y) refl (first_found y) passed ls c.position.result first)

@@ -3,6 +3,4 @@ use Rattle.faults.proofs.Allowed.{found_allows}
 use Rattle.faults.proofs.allows_any.Goals as goal
 
 pub returns : goal.returns
-returns c =
-    let s = c.args in
-    found_allows s.levels.now s.at s.end c.requires.0 c.requires.1 c.run_first.result c.run_first.ensures
+returns c = rw c.run_first.ensures (found_allows c.args.levels.now c.requires)

@@ -1,13 +1,22 @@
--- `faults::are_levels` meets its contract: the levels from here on give what the whole gives.
-use borrow.Author.Tests.{lt-leb}
-use lib.ListN.{get_or}
-use Rattle.meaning.proofs.Slices.{slice_step}
+-- `faults::are_levels` meets its contract: `all` asks each level in turn.
+use mathlib.Core.Path.{◌≡◌, refl, ◌∙◌}
+use mathlib.Core.List.{List, [], ◌∷◌}
+use Prim.Native.Nat.{ℕ}
+use borrow.Author.Rules.{rules}
+use borrow.Author.Tests.{tests}
+use lib.Dec.{leb}
+use Rattle.std.specs.List.{list_all}
+use Rattle.std.proofs.lemmas.Iterator.{YieldsList-from_slice}
+use Rattle.std.proofs.lemmas.Iterator.Search.{all_from_yields_List}
 use Rattle.meaning.specs.Plan.{top_level}
+use Rattle.faults.specs.Faults.{are_levels}
 use Rattle.faults.proofs.are_levels.Goals as goal
 
-pub returns-then-levels-k-gt-TOP_LEVEL : goal.returns-then-levels-k-gt-TOP_LEVEL
-returns-then-levels-k-gt-TOP_LEVEL c =
-    let s = c.args in
-    let k = c.loop-k.k in
-    let step = slice_step s.levels.now k s.end c.loop-k-test.true c.requires.1 in
-    rw (step, lt-leb (get_or s.levels.now k 0) top_level c.if-levels-k-gt-TOP_LEVEL.true) at c.loop-k.invariant.same
+all_levels : (ls : List ℕ) → list_all (λ l. leb l top_level) ls ≡ are_levels ls
+all_levels [] = refl
+all_levels (l ∷ ls) = rw (all_levels ls)
+
+pub returns : goal.returns
+returns c =
+    let ls = c.args.levels.now in
+    all_from_yields_List (λ l. leb l top_level) _ _ _ c.all.ensures.ran (YieldsList-from_slice ls cc) (λ x b q k. search (rules, tests)) ∙ all_levels ls

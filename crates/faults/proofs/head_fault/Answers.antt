@@ -3,13 +3,9 @@ use borrow.Author.Rules.{rules}
 use Rattle.faults.specs.Faults.{head_fault}
 use Rattle.faults.proofs.head_fault.Goals as goal
 
-pub returns-then-not-is_between : goal.returns-then-not-is_between
+pub returns-then-is_between-2 : goal.returns-then-is_between-2
 unfolding head_fault
-returns-then-not-is_between c = search rules
-
-pub returns-then-is_between : goal.returns-then-is_between
-unfolding head_fault
-returns-then-is_between c = search rules
+returns-then-is_between-2 c = search rules
 
 pub returns-else-is_between : goal.returns-else-is_between
 unfolding head_fault

@@ -8,14 +8,14 @@ pub returns-then-not-in_range : goal.returns-then-not-in_range
 unfolding record_fault
 returns-then-not-in_range c = search rules
 
-pub returns-then-not-at_most : goal.returns-then-not-at_most
+pub returns-then-span : goal.returns-then-span
 unfolding record_fault
-returns-then-not-at_most c = search rules
+returns-then-span c = search rules
 
-pub returns-then-equal : goal.returns-then-equal
+pub returns-then-span-2 : goal.returns-then-span-2
 unfolding record_fault
-returns-then-equal c = search rules
+returns-then-span-2 c = search rules
 
-pub returns-else-equal : goal.returns-else-equal
+pub returns : goal.returns
 unfolding record_fault
-returns-else-equal c = rw flat (search rules)
+returns c = rw flat (search rules)

@@ -1,13 +1,16 @@
 -- `intake::read_text` meets its contract: each read is one more, by what is done after it.
-use Rattle.intake.specs.Gathered.{none}
-use Rattle.intake.proofs.Came.{came_on, came_whole, gathered_whole}
+use Rattle.intake.specs.Gathered.{none, more}
+use Rattle.intake.proofs.Came.{reads_room, gathered_last}
 use Rattle.intake.proofs.read_text.Goals as goal
 
-pub loop-n-init : goal.loop-n-init
-loop-n-init g c = none
+pub loop-init : goal.loop-init
+loop-init g c = none
 
-pub loop-n-preserved : goal.loop-n-preserved
-loop-n-preserved g c = came_on _ _ c.loop-n.invariant c.read_behind.ensures c.in-On.is
+pub read_behind-requires : goal.read_behind-requires
+read_behind-requires g c = reads_room c.loop.invariant
 
-pub returns-in-Whole : goal.returns-in-Whole
-returns-in-Whole g c = gathered_whole (came_whole _ _ c.loop-n.invariant c.read_behind.ensures c.in-Whole.is)
+pub loop-preserved : goal.loop-preserved
+loop-preserved g c = more c.loop.invariant c.in-Continue.ensures
+
+pub returns-in-Break : goal.returns-in-Break
+returns-in-Break g c = gathered_last _ c.loop.invariant c.in-Break.ensures

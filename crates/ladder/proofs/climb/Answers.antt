@@ -11,7 +11,7 @@ climb_grade-requires c =
 pub loop-y-preserved : goal.loop-y-preserved
 loop-y-preserved c =
     let g = c.climb_grade in
-    grades_next c.loop-y.invariant (omega arith) g.ensures g.auto.d g.auto.levels
+    grades_next c.loop-y.invariant (omega arith) g.ensures.graded g.ensures.same_events g.auto.levels
 
-pub returns : goal.returns
-returns c = grades_all c.loop-y.invariant (omega arith) c.begin_grades-count.ensures
+pub returns-clause-climbed : goal.returns-clause-climbed
+returns-clause-climbed c = grades_all c.loop-y.invariant c.requires.ready (omega arith) c.begin_grades-count.ensures

@@ -3,4 +3,4 @@ use Rattle.ladder.proofs.Grades.{GradesTo}
 use Rattle.ladder.proofs.climb.Given as goal
 
 abbrev pub invariant-loop-y : goal.invariant-loop-y
-invariant-loop-y l = GradesTo l.h l.held l.y l.fn.d l.d l.initial.levels l.levels
+invariant-loop-y l = GradesTo l.plan l.y l.fn.d l.d l.initial.levels l.levels

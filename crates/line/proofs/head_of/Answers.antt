@@ -5,8 +5,8 @@ use Rattle.faults.proofs.Tests.{sign}
 use Rattle.faults.proofs.Firsts.{head_ranges}
 use Rattle.line.proofs.head_of.Goals as goal
 
-pub from_i32-requires : goal.from_i32-requires
-from_i32-requires c = rw (to_z-of_z c.ranges.n) (sign 1 most_events c.args.n (head_ranges c.args.n c.args.h c.requires).0)
+pub number-requires : goal.number-requires
+number-requires c = rw (to_z-of_z c.ranges.n) (sign 1 most_events c.args.n (head_ranges c.args.n c.args.h c.requires).0)
 
-pub from_i32-requires-2 : goal.from_i32-requires-2
-from_i32-requires-2 c = rw (to_z-of_z c.ranges.h) (sign 0 most_horizon c.args.h (head_ranges c.args.n c.args.h c.requires).1)
+pub number-requires-2 : goal.number-requires-2
+number-requires-2 c = rw (to_z-of_z c.ranges.h) (sign 0 most_horizon c.args.h (head_ranges c.args.n c.args.h c.requires).1)

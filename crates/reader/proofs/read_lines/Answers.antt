@@ -1,83 +1,79 @@
--- `reader::read_lines` meets its contract: a step of either loop is a law of `Steps`. The four ways out (the end of the text, a line without line feed,
--- a field that is no number, a fault of the line) each give `Left`.
-use native.Mathlib.Omega.{arith}
+-- `reader::read_lines` meets its contract: a field, a line, and each way out of the walk is a law of `Steps`.
+use mathlib.Core.Path.{sym}
 use borrow.Author.Rules.{rules}
+use borrow.Author.Tests.{eqb-true, eqb-false}
+use lib.ListN.{length}
 use mir.Facts.{to_z-of_z}
 use mir.Syntax.{w32}
 use mir.Val.{SFits}
+use native.Mathlib.Omega.{arith}
+use Rattle.std.specs.Prelude.{Ok, Err}
+use Rattle.std.proofs.lemmas.List.{take_rest}
+use Rattle.meaning.specs.Reading.{line_feed}
+use Rattle.text.proofs.Cuts.{found, found_none}
 use Rattle.reader.proofs.Steps as S
-use Rattle.reader.proofs.Steps.{Current, Left}
 use Rattle.reader.proofs.read_lines.Goals as goal
-use Rattle.reader.proofs.read_lines.Goals.{Else-end-len, in-Head, in-Entry, else-lines-test, then-lines-test+then-end-len}
-use Rattle.reader.proofs.read_lines.Goals.{then-lines-test+else-end-len+then-loop-tab-test+in-Wrong, then-lines-test+else-end-len+else-loop-tab-test+in-Fault}
+use Rattle.reader.proofs.read_lines.Goals.{in-Head, in-Entry}
+use Rattle.reader.proofs.read_lines.Goals.{else-number-ne1-via-then-number-ne1+else-is_empty, else-number-ne1-via-else-number-ne1}
 
--- ---- in a line: its end is found, then its fields are read
+-- ---- no line feed is left
 
-here : (c : Else-end-len) → Current c.args.text.now c.args.levels.now c.lines.levels c.lines.plan c.lines.number c.lines.at c.find-end.result
-here c = S.current c.lines.invariant.walking c.lines-test.true c.find-end.ensures c.if-end-len.false
+pub returns-then-is_empty : goal.returns-then-is_empty
+returns-then-is_empty c =
+    let e = found_none line_feed c.lines.rest.now c.in_default.ensures in
+    S.walk_end c.lines.invariant e _ c.if-number-ne1.true (eqb-true (length c.lines.rest.now) 0 (sym c.if-is_empty.ensures))
 
-pub begin-line-requires : goal.begin-line-requires
-begin-line-requires c = S.line_in (here c)
+pub returns-else-number-ne1 : goal.returns-else-number-ne1
+returns-else-number-ne1 c =
+    let w = c.lines.invariant in
+    let e = found_none line_feed c.lines.rest.now c.in_default.ensures in
+    elim c.else-number-ne1.branch [
+      | else-number-ne1-via-then-number-ne1+else-is_empty v ↦ S.walk_unended w e (eqb-false (length c.lines.rest.now) 0 (sym v.if-is_empty.ensures))
+      | else-number-ne1-via-else-number-ne1 v ↦ S.walk_none w e v.if-number-ne1.false
+    ]
+
+-- ---- the fields of a line
 
 pub loop-tab-init : goal.loop-tab-init
-loop-tab-init c = record { sound = c.lines.invariant.sound; scanning = rw c.begin-line.ensures (S.scan_begin (here (goal.at.loop-tab-init c).Else-end-len)) }
-
-pub field_after-requires : goal.field_after-requires
-field_after-requires c = (c.loop-tab-test.true, (S.line_in (here (goal.at.field_after-requires c).Else-end-len)).1)
-
-pub store_level-requires : goal.store_level-requires
-store_level-requires c =
-    let w = c.lines.invariant.walking in
-    let s = c.loop-tab.invariant.scanning in
-    let more = S.room_more (here (goal.at.store_level-requires c).Else-end-len) s c.loop-tab-test.true c.requires.0 in
-    (more.0, w.room.levels, omega (arith, s.stored.long, w.held.long, c.requires.1))
-
-pub with_number-line-requires : goal.with_number-line-requires
-with_number-line-requires c =
-    S.room_more (here (goal.at.with_number-line-requires c).Else-end-len) c.loop-tab.invariant.scanning c.loop-tab-test.true c.requires.0
+loop-tab-init c = rw c.begin-line.ensures (S.scan_begin _ c.lines.number c.lines.plan.used c.lines.levels)
 
 pub loop-tab-preserved : goal.loop-tab-preserved
 loop-tab-preserved c =
-    let fits : SFits w32 c.in-Number.v = search rules in
-    let o = here (goal.at.loop-tab-preserved c).Else-end-len in
-    let more = S.scan_more o c.loop-tab.invariant.scanning c.loop-tab-test.true c.in-Number.ensures in
-    record { sound = c.loop-tab.invariant.sound; scanning = rw (c.with_number-line.ensures, c.store_level.ensures, to_z-of_z fits) more }
+    let fits : SFits w32 c.in-Some-field_after.v = search rules in
+    let f = c.in-Some-field_after in
+    let more = S.scan_more c.loop-tab.invariant c.loop-tab-test.true f.v f.next f.ensures in
+    rw (c.with_number-line.ensures, c.store_level.ensures, to_z-of_z fits) more
 
--- ---- after a line
+pub returns-in_default-field_after : goal.returns-in_default-field_after
+returns-in_default-field_after c =
+    let w = c.lines.invariant in
+    let f = found line_feed c.in-Some.end c.lines.rest.now c.in-Some.ensures in
+    let bad = S.unread c.loop-tab.invariant c.loop-tab-test.true c.in_default-field_after.ensures w.p c.args.levels.now c.lines.plan w.standing in
+    S.walk_fault w c.in-Some.end f.0 f.1 _ _ _ bad
 
-pub overflow_add-at : goal.overflow_add-at
-overflow_add-at c = omega (arith, (S.line_in (here (goal.at.overflow_add-at c).Else-end-len)).1, c.requires.0)
+-- ---- what the line gives
 
 pub lines-preserved : goal.lines-preserved
 lines-preserved c =
-    let o = here (goal.at.lines-preserved c).Else-end-len in
-    let s = c.loop-tab.invariant.scanning in
+    let w = c.lines.invariant in
+    let f = found line_feed c.in-Some.end c.lines.rest.now c.in-Some.ensures in
+    let s = c.loop-tab.invariant in
     let all = c.loop-tab-test.false in
-    let whole = S.whole o s all in
-    record {
-      sound = c.loop-tab.invariant.sound;
-      walking = elim c.match-take.branch [
-        | in-Head w ↦ rw w.plan-is (S.headed o s all (w.in-Head.ensures s.seen c.lines.levels whole))
-        | in-Entry w ↦ rw w.plan-is (S.entered o s all c.requires.1 w.from_u16.ensures (w.in-Entry.ensures s.seen c.lines.levels whole))
-      ];
-    }
+    let gave = S.judged_so_far c.lines.plan (Ok c.in-Ok.effect) c.so_far.ensures c.in-Ok.ensures s.seen c.lines.levels (S.whole c.lines.plan s all) in
+    elim c.match-effect.branch [
+      | in-Head v ↦
+          let step = S.headed c.lines.plan s all w.p c.args.levels.now w.standing _ _ tt (rw v.in-Head.is at gave) in
+          rw (take_rest, v.plan-is) (S.walk_on w c.in-Some.end f.0 f.1 _ _ tt step)
+      | in-Entry v ↦
+          let step = S.entered c.lines.plan s all w.p c.args.levels.now w.standing _ _ tt (omega arith) v.from.ensures (rw v.in-Entry.is at gave) in
+          rw (take_rest, v.plan-is) (S.walk_on w c.in-Some.end f.0 f.1 _ _ tt step)
+    ]
 
--- ---- the ways out
-
-pub returns : goal.returns
-returns c =
-    let v = c.lines.invariant.walking in
-    let out : Left c.args.text.now c.args.levels.now c.lines-test.levels c.lines.plan c.lines-test.fault c.lines.number =
-    elim c.lines-test.branch [
-      | else-lines-test w ↦ rw (w.levels-is, w.fault-is) (S.ended v c.lines.invariant.sound w.lines-test.false)
-      | then-lines-test+then-end-len w ↦ rw (w.levels-is, w.fault-is) (S.unended v w.lines-test.true w.find-end.ensures w.if-end-len.true)
-      | then-lines-test+else-end-len+then-loop-tab-test+in-Wrong w ↦
-          let o = S.current v w.lines-test.true w.find-end.ensures w.if-end-len.false in
-          rw (w.levels-is, w.fault-is) (S.unread o w.loop-tab.invariant.scanning w.loop-tab-test.true w.in-Wrong.ensures)
-      | then-lines-test+else-end-len+else-loop-tab-test+in-Fault w ↦
-          let o = S.current v w.lines-test.true w.find-end.ensures w.if-end-len.false in
-          let s = w.loop-tab.invariant.scanning in
-          let gave = w.in-Fault.ensures s.seen c.lines.levels (S.whole o s w.loop-tab-test.false) in
-          rw (w.levels-is, w.fault-is) (S.faulted o s w.loop-tab-test.false gave)
-    ] in
-    rw c.verdict_of.ensures out.walked
+pub returns-in-Err : goal.returns-in-Err
+returns-in-Err c =
+    let w = c.lines.invariant in
+    let f = found line_feed c.in-Some.end c.lines.rest.now c.in-Some.ensures in
+    let s = c.loop-tab.invariant in
+    let all = c.loop-tab-test.false in
+    let gave = S.judged_so_far c.lines.plan (Err c.in-Err.fault) c.so_far.ensures c.in-Err.ensures s.seen c.lines.levels (S.whole c.lines.plan s all) in
+    S.walk_fault w c.in-Some.end f.0 f.1 _ _ _ (S.faulted c.lines.plan s all w.p c.args.levels.now w.standing _ gave)

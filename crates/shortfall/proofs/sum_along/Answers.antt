@@ -1,4 +1,4 @@
--- `shortfall::sum_along` meets its contract: the sum is that along the codes passed, for every plan that memory holds, and it fits.
+-- `shortfall::sum_along` meets its contract: the sum is that along the codes passed, and it fits.
 use mathlib.Core.Path.{◌≡◌, ap, ◌∙◌}
 use Prim.Native.Nat.{◌+◌}
 use borrow.Author.Rules.{rules}
@@ -6,29 +6,24 @@ use lib.IntN.{◌+ℤ◌}
 use mir.Syntax.{w64}
 use mir.Val.{to_z, of_z, SFits}
 use mir.Facts.{to_z-of_z}
-use Rattle.meaning.specs.Plan as M
 use Rattle.meaning.specs.Bounds.{Bound}
-use Rattle.plan.specs.Held.{InMemory}
 use Rattle.shortfall.proofs.Near.{along, along_fits, along_more}
 use Rattle.shortfall.proofs.sum_along.Goals as goal
-use Rattle.shortfall.proofs.sum_along.Goals.{After-step_of-s}
+use Rattle.shortfall.proofs.sum_along.Goals.{After-step_of-sum}
 
 -- the sum with the turn's weight is that along one code more
-more : (c : After-step_of-s) (p : M.Plan) → InMemory p c.args.h c.args.held.now →
-    to_z w64 c.loop-i.sum-bits +ℤ to_z w64 (of_z w64 c.step_of-s.result.weight) ≡ along p c.args.chain.now (c.loop-i.i + 1)
-more c p o =
-    let range : SFits w64 c.step_of-s.result.weight = search rules in
-    let weight = to_z-of_z range ∙ ap (λ (b : Bound). b.weight) (c.step_of-s.ensures p o) in
-    rw (c.loop-i.invariant p o, weight, along_more p c.args.chain.now c.loop-i.i c.loop-i-test.true)
+more : (c : After-step_of-sum) →
+    to_z w64 c.loop-c.sum-bits +ℤ to_z w64 (of_z w64 c.step_of-sum.result.weight) ≡ along c.args.plan.now c.args.chain.now (c.loop-c.c-index + 1)
+more c =
+    let range : SFits w64 c.step_of-sum.result.weight = search rules in
+    let weight = to_z-of_z range ∙ ap (λ (b : Bound). b.weight) c.step_of-sum.ensures in
+    rw (c.loop-c.invariant, weight, along_more c.args.plan.now c.args.chain.now c.loop-c.c-index c.loop-c-test.true)
 
-fits : (c : After-step_of-s) (p : M.Plan) → InMemory p c.args.h c.args.held.now → SFits w64 (along p c.args.chain.now (c.loop-i.i + 1))
-fits c p o = along_fits o.faultless c.args.chain.now c.requires.1 (c.loop-i.i + 1)
+fits : (c : After-step_of-sum) → SFits w64 (along c.args.plan.now c.args.chain.now (c.loop-c.c-index + 1))
+fits c = along_fits c.requires.faultless c.args.chain.now c.requires.few (c.loop-c.c-index + 1)
 
 pub overflow_add-sum : goal.overflow_add-sum
-overflow_add-sum c =
-    let turn = (goal.at.overflow_add-sum c).After-step_of-s in
-    let p = c.requires.0 in
-    rw (more turn p.0 p.1) (fits turn p.0 p.1)
+overflow_add-sum c = let turn = (goal.at.overflow_add-sum c).After-step_of-sum in rw (more turn) (fits turn)
 
-pub loop-i-preserved : goal.loop-i-preserved
-loop-i-preserved c = let turn = (goal.at.loop-i-preserved c).After-step_of-s in λ p o. rw (more turn p o) (to_z-of_z (fits turn p o))
+pub loop-c-preserved : goal.loop-c-preserved
+loop-c-preserved c = let turn = (goal.at.loop-c-preserved c).After-step_of-sum in rw (more turn) (to_z-of_z (fits turn))

@@ -1,9 +1,7 @@
--- The sum is that along the codes passed, for every plan that memory holds.
+-- The sum is that along the codes passed.
 use mathlib.Core.Path.{◌≡◌}
-use Rattle.meaning.specs.Plan as M
-use Rattle.plan.specs.Held.{InMemory}
 use Rattle.shortfall.proofs.Near.{along}
 use Rattle.shortfall.proofs.sum_along.Given as goal
 
-abbrev pub invariant-loop-i : goal.invariant-loop-i
-invariant-loop-i l = (p : M.Plan) → InMemory p l.h l.held → l.sum ≡ along p l.chain l.i
+abbrev pub invariant-loop-c : goal.invariant-loop-c
+invariant-loop-c l = l.sum ≡ along l.plan l.chain l.c-index

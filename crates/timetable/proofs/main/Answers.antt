@@ -6,9 +6,9 @@ use Rattle.intake.proofs.Came.{whole_within}
 use Rattle.timetable.proofs.main.Goals as goal
 
 pub slice_bounds-text-end : goal.slice_bounds-text-end
-slice_bounds-text-end c = whole_within c.read_text.ensures c.in-Whole.is
+slice_bounds-text-end c = whole_within c.read_text.ensures c.in-Ok.is
 
 pub slice_bounds-print-end : goal.slice_bounds-print-end
 slice_bounds-print-end c =
-    let inside : c.in-Whole.n ≤ length c.read_text.new.area = whole_within c.read_text.ensures c.in-Whole.is in
+    let inside : c.in-Ok.n ≤ length c.read_text.new.area = whole_within c.read_text.ensures c.in-Ok.is in
     simp length-take (omega arith)

@@ -1,0 +1,7 @@
+-- `bounds::Bounds::none` meets its contract: every entry is blank.
+use mathlib.Core.Path.{refl}
+use Rattle.bounds.proofs.Lists.{front_none}
+use Rattle.bounds.proofs.Bounds.none.Goals as goal
+
+pub returns : goal.returns
+returns c = (refl, front_none _ refl refl)

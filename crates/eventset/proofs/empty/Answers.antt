@@ -1,8 +1,0 @@
--- `eventset::empty` meets its contract: no digit in either word.
-use mathlib.Core.Path.{refl}
-use Rattle.eventset.specs.Sets.{bits_of}
-use Rattle.eventset.proofs.empty.Goals as goal
-
-pub returns : goal.returns
-unfolding bits_of
-returns c = refl

@@ -1,0 +1,2 @@
+-- What the numbers of faults say of them.
+pub mod Numbers

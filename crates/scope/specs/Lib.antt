@@ -1,0 +1,2 @@
+-- What the numbers of faults are.
+pub mod Faults
