@@ -167,7 +167,7 @@ fn try_bound(b: Bound, d: &mut Matrix) -> bool
     d.add(usize::from(b.start), usize::from(b.end), b.weight)
 }
 
-// Adds the bounds from place `from` on; the place of the first that leaves no timetable as an error, so that places are counted.
+// Adds the bounds from place `from` on; the place of the first that leaves no timetable as an error.
 pub fn try_all(list: &[Bound], from: usize, d: &mut Matrix) -> Result<(), usize>
     requires { Trying list.now from d.old.events d.old.entries }
     ensures same_events { d.new.events ≡ d.old.events }

@@ -121,7 +121,7 @@ impl Marked {
     }
 
     // Writes the codes of a closed chain from one of its events on, by the notes: as many steps as it has events. Returns their number. By index: after
-    // `iter_mut` a proof knows the number of codes alone.
+    // `iter_mut` over a part of a slice a proof knows how many codes there are, and none of them.
     fn write(&self, from: usize, seen: EventSet, out: &mut [u16]) -> usize
         requires { Writing self.now.notes from (ones (bits_of seen)) out.old }
         ensures { Written self.now.notes from (ones (bits_of seen)) out.old result out.new }

@@ -16,7 +16,7 @@ const STRIDE: usize = scope::MOST_EVENTS;
 const ENTRIES: usize = STRIDE * STRIDE;
 
 // Entry i * STRIDE + j, in row i and column j, bounds t(j) − t(i) from above.
-// Loops write entries by index: after `iter_mut` a proof knows their number alone.
+// Loops write entries by index: after `iter_mut` over a part of a slice a proof knows how many there are, and no entry.
 #[derive(Drop)]
 pub struct Matrix {
     pub events: usize,

@@ -1,10 +1,9 @@
 // The reader of a plan text: the walk over its lines up to the first fault.
 #![tactic(auto)]
 
-ghost use Rattle.std.specs.Prelude.{◌≡◌, List, ℕ, ◌≤◌, length};
-ghost use Rattle.meaning.specs.Plan as M;
+ghost use Rattle.std.specs.Prelude.{◌≡◌, ◌≤◌, length};
 ghost use Rattle.meaning.specs.Plan.{most_levels_together, most_bytes};
-ghost use Rattle.meaning.specs.Reading.{empty, line_feed, split, line_form, line_step, read_pieces};
+ghost use Rattle.meaning.specs.Reading.{empty, line_feed, split, read_pieces};
 ghost use Rattle.plan.specs.Held.{Holds, LevelsHeld};
 ghost use Rattle.reader.specs.Heard.{Read, so_far, Walked};
 

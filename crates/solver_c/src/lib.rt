@@ -1,7 +1,6 @@
 // The entry points of `solver` for C, as `include/timetable.h` declares them.
 #![tactic(auto)]
 
-ghost use Rattle.std.specs.Prelude.{List, ℕ};
 ghost use Rattle.meaning.specs.Outcome.{Promise, areas};
 ghost use Rattle.meaning.specs.Reading.{read};
 ghost use Rattle.meaning.specs.Short.{ShortIn};
