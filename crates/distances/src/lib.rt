@@ -17,10 +17,11 @@ const ENTRIES: usize = STRIDE * STRIDE;
 
 // Entry i * STRIDE + j, in row i and column j, bounds t(j) − t(i) from above.
 // Loops write entries by index: after `iter_mut` over a part of a slice a proof knows how many there are, and no entry.
+// The entries come first: so the parts of a row that are lowered at once begin at multiples of their size.
 #[derive(Drop)]
 pub struct Matrix {
-    pub events: usize,
     pub entries: [i32; ENTRIES],
+    pub events: usize,
 }
 
 // What row i and column j hold where only the horizon h is known.
@@ -103,7 +104,8 @@ impl Matrix {
         }
     }
 
-    // The bound from a to b of weight w is added to every row.
+    // The bound from a to b of weight w is added to every row. Not inlined: where it was, its loops had to share the registers with those of its callers.
+    #[inline(never)]
     fn insert(&mut self, a: usize, b: usize, w: i32)
         requires { Adding self.old.events a b w self.old.entries }
         ensures same_events { self.new.events ≡ self.old.events }

@@ -25,9 +25,13 @@ pub only : (k : ℕ) → first_fault (k ∷ []) ≡ k
 only zero = refl
 only (suc k) = refl
 
+pub stops : (k : ℕ) (ks : List ℕ) → (k ≡ no_fault → ⊥) → k ≡ first_fault (k ∷ ks)
+stops zero ks n = absurd (n refl)
+stops (suc k) ks n = refl
+
 -- a fault that was found stops the tests
-pub stops : (f : Fault) (ks : List ℕ) → first_fault (number f ∷ ks) ≡ number f
-stops f ks = rw (not_zero f).1
+pub stops_fault : (f : Fault) (ks : List ℕ) → first_fault (number f ∷ ks) ≡ number f
+stops_fault f ks = rw (not_zero f).1
 
 -- ---- no fault
 

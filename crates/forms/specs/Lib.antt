@@ -1,3 +1,4 @@
 -- The printed form, and how it is put.
 pub mod Printed
 pub mod Put
+pub mod Timed

@@ -1,19 +1,19 @@
 // The printed form of an outcome, put into a lent area.
 #![tactic(auto)]
 
-ghost use Rattle.std.specs.Prelude.{◌≡◌, ◌+◌, ◌*◌, ◌≤◌, length};
+ghost use Rattle.std.specs.Prelude.{◌+◌, ◌*◌, ◌≤◌, length, take};
 ghost use Rattle.meaning.specs.Plan as M;
 ghost use Rattle.meaning.specs.Plan.{wishes, most_events, most_records, most_bytes};
 ghost use Rattle.meaning.specs.Outcome.{solved, none, refusal};
-ghost use Rattle.scope.specs.Faults.{number};
 ghost use Rattle.codes.specs.Codes.{as_bound};
 ghost use Rattle.forms.specs.Printed.{at_lines, level_lines, step_line, step_lines, printed};
 ghost use Rattle.forms.specs.Put.{line_room, step_room, area_room, Put, Free, Adds};
+ghost use Rattle.forms.specs.Timed.{Timed, Levels};
 
 use codes::Step;
-use plan::Loaded;
+use plan::{Loaded, Plan};
 use print::Sheet;
-use scope::{MOST_EVENTS, MOST_RECORDS, Refusal};
+use scope::{MOST_EVENTS, MOST_RECORDS, Refused};
 use widths::Width;
 
 // The bytes of a line with two numbers, at most.
@@ -35,12 +35,13 @@ fn at_lines(sheet: &mut Sheet, times: &[i64])
 }
 
 // The lines `level` of the plan's wishes, the records that have levels, with the level that each wish is given.
-fn level_lines(sheet: &mut Sheet, plan: &Loaded, levels: &[u8])
-    requires { Free sheet.old (line_room * most_records) × (length levels.now ≡ wishes plan.now) }
-    ensures { Adds sheet.old sheet.new (line_room * most_records) (level_lines 0 plan.now.records levels.now) }
+fn level_lines(sheet: &mut Sheet, plan: &Plan, levels: &[u8])
+    requires { Free sheet.old (line_room * most_records) × ((p : M.Plan) × Levels p plan.now levels.now) }
+    ensures { (p : M.Plan) → Levels p plan.now levels.now
+        → Adds sheet.old sheet.new (line_room * most_records) (level_lines 0 p.records levels.now) }
 {
     let mut w = 0;
-    for (k, r) in plan.plan.records[..plan.plan.count].iter().enumerate() {
+    for (k, r) in plan.records[..plan.count].iter().enumerate() {
         if r.count > 0 {
             sheet.line(b"level", &[i64::of(k), i64::from(levels[w])]);
             w += 1;
@@ -77,13 +78,14 @@ fn step_lines(sheet: &mut Sheet, plan: &Loaded, chain: &[u16])
 // ---- the form of an outcome
 
 // The form of a refusal.
-pub fn put_refused(out: &mut [u8], refused: Refusal) -> usize
-    requires { (area_room ≤ length out.old) × (refused.line ≤ most_bytes + 1) }
-    ensures { (p : M.Plan) → Put out.old out.new 0 result area_room (printed p (refusal (number refused.fault) refused.line)) }
+pub fn put_refused<E: Refused>(out: &mut [u8], refused: E) -> usize
+    requires { (area_room ≤ length out.old) × (E.line_in refused ≤ most_bytes + 1) }
+    ensures { (p : M.Plan) → Put out.old out.new 0 result area_room (printed p (refusal (E.number_in refused) (E.line_in refused))) }
 {
     let mut sheet = Sheet { out, at: 0 };
-    let fault = i64::from(u8::from(refused.fault));
-    sheet.line(b"refused", &[fault, i64::of(refused.line)]);
+    let number = refused.number();
+    let line = refused.line();
+    sheet.line(b"refused", &[i64::from(number), i64::of(line)]);
     sheet.at
 }
 
@@ -98,14 +100,15 @@ pub fn put_none(out: &mut [u8], plan: &Loaded, chain: &[u16]) -> usize
     sheet.at
 }
 
-// The form of the times of a plan's events and the levels of its wishes.
-pub fn put_solved(out: &mut [u8], plan: &Loaded, times: &[i64], levels: &[u8]) -> usize
-    requires { (area_room ≤ length out.old) × (length times.now ≤ most_events) × (length levels.now ≡ wishes plan.now) }
-    ensures { Put out.old out.new 0 result area_room (printed plan.now (solved times.now levels.now)) }
+// The form of the times of a plan's events and the levels of its w wishes, which stand in front of their areas.
+pub fn put_solved(out: &mut [u8], plan: &Plan, w: usize, times: &[i64], levels: &[u8]) -> usize
+    requires { (area_room ≤ length out.old) × ((p : M.Plan) × Timed p plan.now w times.now levels.now) }
+    ensures { (p : M.Plan) → Timed p plan.now w times.now levels.now
+        → Put out.old out.new 0 result area_room (printed p (solved (take p.events times.now) (take (wishes p) levels.now))) }
 {
     let mut sheet = Sheet { out, at: 0 };
-    sheet.line(b"solved", &[i64::of(times.len()), i64::of(levels.len())]);
-    at_lines(&mut sheet, times);
-    level_lines(&mut sheet, plan, levels);
+    sheet.line(b"solved", &[i64::of(plan.events), i64::of(w)]);
+    at_lines(&mut sheet, &times[..plan.events]);
+    level_lines(&mut sheet, plan, &levels[..w]);
     sheet.at
 }

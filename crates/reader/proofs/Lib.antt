@@ -1,4 +1,4 @@
--- The pieces of a text, the walk over its lines, the area, the answer from what its parts answer, and that any two answers are equal.
+-- The pieces of a text, the walk over its lines, the answer from what its parts answer, and that any two answers are equal.
 mod Pieces
 pub mod Steps
 pub mod Answers

@@ -1,7 +1,7 @@
 // The reader of a plan text: the walk over its lines up to the first fault.
 #![tactic(auto)]
 
-ghost use Rattle.std.specs.Prelude.{◌≡◌, ◌≤◌, length};
+ghost use Rattle.std.specs.Prelude.{◌≡◌, ◌==◌, ◌≤◌, length, position};
 ghost use Rattle.meaning.specs.Plan.{most_levels_together, most_bytes};
 ghost use Rattle.meaning.specs.Reading.{empty, line_feed, split, read_pieces};
 ghost use Rattle.plan.specs.Held.{Holds, LevelsHeld};
@@ -33,6 +33,13 @@ fn so_far(plan: &Plan) -> SoFar
     }
 }
 
+// Where the first line of what is left ends, with its line feed; a line that has none has no end.
+fn line_end(rest: &[u8]) -> Option<usize>
+    ensures { result ≡ position (λ x. x == line_feed) rest.now }
+{
+    text::find(rest, LINE_FEED)
+}
+
 // The lines of a text from the top, and in each line its fields, up to the first fault, with which both loops are left. Each line ends with a line feed,
 // the last one too, and there is at least one.
 fn read_lines(text: &[u8], plan: &mut Plan, levels: &mut [u8]) -> Result<(), Refusal>
@@ -43,7 +50,7 @@ fn read_lines(text: &[u8], plan: &mut Plan, levels: &mut [u8]) -> Result<(), Ref
     let mut number = 1;
     let mut rest = text;
     let fault = 'lines: loop {
-        let Some(end) = text::find(rest, LINE_FEED) else {
+        let Some(end) = line_end(rest) else {
             if number != 1 && rest.is_empty() {
                 return Ok(());
             }

@@ -8,6 +8,7 @@ use native.Mathlib.Omega.{arith}
 use borrow.Author.Tests.{leb-true, leb-false}
 use lib.Dec.{leb}
 use lib.ListN.{length, take, length-map}
+use lib.Seq.{length-take-le}
 use lib.IntN.{ℤ}
 use Rattle.meaning.specs.Plan.{Plan, most_events, wishes}
 use Rattle.meaning.specs.Reading.{Reading, plan, refused, read}
@@ -17,11 +18,14 @@ use Rattle.meaning.specs.Faultless.{WithoutFault}
 use Rattle.meaning.proofs.Levels.{levels_count}
 use Rattle.meaning.proofs.Over.{over_front, over_room}
 use Rattle.scope.specs.declared.Side.{Side}
+use Rattle.plan.specs.declared.Plan.{Plan as Held}
+use Rattle.plan.specs.Held.{Holds}
 use Rattle.reader.specs.Heard.{plan_in}
 use Rattle.settle.specs.Settled.{Settled}
 use Rattle.settle.specs.declared.Outcome.TheVariants as Out
 use Rattle.forms.specs.Printed.{printed}
 use Rattle.forms.specs.Put.{area_room, Put}
+use Rattle.forms.specs.Timed.{Timed}
 use Rattle.report.specs.Answer.{Told, Answered}
 use Rattle.forms.proofs.Puts.{put_front}
 
@@ -91,6 +95,17 @@ module _ {side : Side} {p : Plan} (g : WithoutFault p) {before : Areas} {times :
             few = rw f (omega (arith, ap length h.coded, length-map h.steps (λ b. b.code), h.most, g.most));
           }
       go (refusal m j) h n q o = absurd h
+
+-- the times and levels that are printed are those of the plan
+module _ {side : Side} {p : Plan} {times : List ℤ} {levels : List ℕ} {w : ℕ} (s : LeftSolved side p p.events times levels w) where
+  left_count : w ≡ wishes p
+  left_count = sym (length-take-le w levels s.levels_room) ∙ s.counted
+
+  pub left_timed : {h : Held} → Holds p h → WithoutFault p → Timed p h w times levels
+  left_timed o g = record { holds = o; faultless = g; count = left_count; long = s.times_room; room = omega (arith, left_count, s.levels_room) }
+
+  pub left_right : Right side (plan p) (solved (take p.events times) (take (wishes p) levels))
+  left_right = rw left_count at s.right
 
 -- ---- the count lies within the area
 

@@ -25,7 +25,6 @@ fn put_outcome(out: &mut [u8], plan: &Loaded, side: Side) -> usize
         levels: &mut levels,
         chain: &mut chain,
     };
-    let events = plan.plan.events;
     let outcome = settle::settle(plan, side, &mut areas);
     let Areas {
         times,
@@ -33,7 +32,7 @@ fn put_outcome(out: &mut [u8], plan: &Loaded, side: Side) -> usize
         chain,
     } = areas;
     match outcome {
-        Outcome::Solved(w) => forms::put_solved(out, plan, &times[..events], &levels[..w]),
+        Outcome::Solved(w) => forms::put_solved(out, plan.plan, w, times, levels),
         Outcome::NoTimetable(steps) => forms::put_none(out, plan, &chain[..steps]),
     }
 }

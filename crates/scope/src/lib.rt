@@ -2,7 +2,7 @@
 // And the one choice that a caller has (T-02), which the definitions take from here.
 #![tactic(auto)]
 
-ghost use Rattle.std.specs.Prelude.{◌≡◌};
+ghost use Rattle.std.specs.Prelude.{◌≡◌, ℕ};
 
 // What is allowed: section 1. The ends lo and hi lie between -MOST_END and MOST_END.
 pub const MOST_EVENTS: usize = 128;
@@ -71,6 +71,50 @@ impl From<Fault> for u8 {
 pub struct Refusal {
     pub fault: Fault,
     pub line: usize,
+}
+
+// What says why a text or an area is refused: a number, and the line that goes with it.
+pub trait Refused: Copy {
+    ghost number_in: { Self → ℕ };
+
+    ghost line_in: { Self → ℕ };
+
+    fn number(self) -> u8
+        ensures { result ≡ number_in self };
+
+    fn line(self) -> usize
+        ensures { result ≡ line_in self };
+}
+
+impl Refused for Refusal {
+    ghost use Rattle.scope.specs.Faults.{number};
+
+    ghost number_in = { λ refused. number refused.fault };
+
+    ghost line_in = { λ refused. refused.line };
+
+    fn number(self) -> u8 {
+        u8::from(self.fault)
+    }
+
+    fn line(self) -> usize {
+        self.line
+    }
+}
+
+// The two as they stand, any number at all.
+impl Refused for (u8, usize) {
+    ghost number_in = { λ refused. refused.0 };
+
+    ghost line_in = { λ refused. refused.1 };
+
+    fn number(self) -> u8 {
+        self.0
+    }
+
+    fn line(self) -> usize {
+        self.1
+    }
 }
 
 // Which of the best timetables is given: the one with the greatest time of each event, or the one with the least.

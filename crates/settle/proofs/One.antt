@@ -1,5 +1,6 @@
 -- Any two outcomes of a plan on one side that satisfy the promise of `settle` are the same, or both are chains; number, place and areas follow from the
--- outcome. The promises of `number_of` and `place_in` say so themselves. And an answer is the one that its number and place name.
+-- outcome. The promises of `number_of` and `place_in` say so themselves, and of an answer they say its number and place. And an answer is the one that
+-- these two name.
 use mathlib.Core.Path.{◌≡◌, refl}
 use Rattle.std.specs.Prelude.{Ok, Err}
 use Rattle.meaning.specs.Plan as M
@@ -8,9 +9,10 @@ use Rattle.meaning.specs.Outcome.{Areas}
 use Rattle.meaning.specs.Faultless.{WithoutFault}
 use Rattle.meaning.proofs.Promises.{Faultless, Same, one_outcome}
 use Rattle.scope.specs.declared.Side.{Side}
+use Rattle.scope.specs.declared.Refusal.{Refusal}
 use Rattle.settle.specs.declared.Outcome.{Outcome}
 use Rattle.settle.specs.declared.Outcome.TheVariants.{Solved, NoTimetable}
-use Rattle.settle.specs.Settled.{Answer, number_of, place_of, named, Settled}
+use Rattle.settle.specs.Settled.{Answer, number_of, place_of, number_by, place_by, named, Settled}
 use Rattle.scope.specs.declared.Fault.{Fault}
 use Rattle.scope.specs.declared.Fault.TheVariants.{WrongForm, TooMany, OutOfRange, SameEvent, NotPeaked, AreaTooShort, NothingAllowed}
 use Rattle.scope.specs.Faults.{number}
@@ -34,3 +36,13 @@ answer_named (Err refused) = by refused.fault
     by NotPeaked = refl
     by AreaTooShort = refl
     by NothingAllowed = refl
+
+pub number_same : (r : Answer) → number_by (λ (refused : Refusal). number refused.fault) r ≡ number_of r
+number_same (Ok (Solved w)) = refl
+number_same (Ok (NoTimetable steps)) = refl
+number_same (Err refused) = refl
+
+pub place_same : (r : Answer) → place_by (λ (refused : Refusal). refused.line) r ≡ place_of r
+place_same (Ok (Solved w)) = refl
+place_same (Ok (NoTimetable steps)) = refl
+place_same (Err refused) = refl

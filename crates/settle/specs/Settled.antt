@@ -26,6 +26,17 @@ place_of (Ok (Solved w)) = w
 place_of (Ok (NoTimetable steps)) = steps
 place_of (Err refused) = refused.line
 
+-- the same of any refusal, by what it says
+abbrev pub number_by : {E : Type 0} → (E → ℕ) → Result Outcome E → ℕ
+number_by said (Ok (Solved w)) = solved_number
+number_by said (Ok (NoTimetable steps)) = no_timetable_number
+number_by said (Err refused) = said refused
+
+abbrev pub place_by : {E : Type 0} → (E → ℕ) → Result Outcome E → ℕ
+place_by said (Ok (Solved w)) = w
+place_by said (Ok (NoTimetable steps)) = steps
+place_by said (Err refused) = said refused
+
 -- the answer that a number and a place name
 abbrev pub named : ℕ → ℕ → Answer
 named zero w = Ok (Solved w)

@@ -3,13 +3,13 @@
 
 ghost use Rattle.std.specs.Prelude.{◌≡◌, true};
 ghost use Rattle.meaning.specs.Outcome.{long_enough};
-ghost use Rattle.settle.specs.Settled.{number_of, place_of, Settled};
+ghost use Rattle.settle.specs.Settled.{number_by, place_by, Settled};
 ghost use Rattle.settle.specs.Lent.{lent, SameAreas};
 
 use bounds::Bounds;
 use distances::Matrix;
 use plan::Loaded;
-use scope::{NO_TIMETABLE, Refusal, SOLVED, Side};
+use scope::{NO_TIMETABLE, Refused, SOLVED, Side};
 
 // What a plan comes to: times and levels with the count of wishes, or a chain with the count of its steps.
 #[derive(Clone, Copy, PartialEq, Eq)]
@@ -27,24 +27,24 @@ pub struct Areas<'a> {
 }
 
 // The number of document 01, section 3, as C takes it.
-pub fn number_of(answer: Result<Outcome, Refusal>) -> u8
-    ensures { result ≡ number_of answer }
+pub fn number_of<E: Refused>(answer: Result<Outcome, E>) -> u8
+    ensures { result ≡ number_by E.number_in answer }
 {
     match answer {
         Ok(Outcome::Solved(_)) => SOLVED,
         Ok(Outcome::NoTimetable(_)) => NO_TIMETABLE,
-        Err(refusal) => u8::from(refusal.fault),
+        Err(refused) => refused.number(),
     }
 }
 
 // The place that goes with it.
-pub fn place_in(answer: Result<Outcome, Refusal>) -> usize
-    ensures { result ≡ place_of answer }
+pub fn place_in<E: Refused>(answer: Result<Outcome, E>) -> usize
+    ensures { result ≡ place_by E.line_in answer }
 {
     match answer {
         Ok(Outcome::Solved(wishes)) => wishes,
         Ok(Outcome::NoTimetable(steps)) => steps,
-        Err(refusal) => refusal.line,
+        Err(refused) => refused.line(),
     }
 }
 

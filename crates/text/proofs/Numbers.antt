@@ -36,7 +36,7 @@ is_digit_le x q = go (leb 48 x) refl (leb x 57) refl q
     go true p false r t = let z : ◌≡◌ {A = ℕ} 0 1 = cc in omega arith
     go false p b r t = let z : ◌≡◌ {A = ℕ} 0 1 = cc in omega arith
 
-run_small : (f : List ℕ) (v n w : ℕ) → v < 10 ^ n → run_from v f ≡ some w → w < 10 ^ (n + length f)
+pub run_small : (f : List ℕ) (v n w : ℕ) → v < 10 ^ n → run_from v f ≡ some w → w < 10 ^ (n + length f)
 run_small [] v n w h q = let e : v ≡ w = cc in rw (add-zero) (omega arith)
 run_small (x ∷ xs) v n w h q = go (λ (a b : ℕ). run_small xs a b w) (is_digit x) refl q
   where

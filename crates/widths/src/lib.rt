@@ -114,3 +114,13 @@ impl Number for i32 {
         self.unsigned_abs() as usize
     }
 }
+
+impl Number for isize {
+    ghost whole = { non_neg };
+
+    ghost held = { nat_abs };
+
+    fn number(self) -> usize {
+        isize::unsigned_abs(self)
+    }
+}

@@ -10,12 +10,14 @@ use Rattle.forms.proofs.Whole.{refused_form}
 use Rattle.forms.proofs.put_refused.Goals as goal
 
 pub line-requires : goal.line-requires
-line-requires c =
-    let row = shown _ c.from-fault.type_inv (c.from-fault.ensures ∙ ap pos c.from.ensures) (shown _ c.of.type_inv c.of.ensures none) in
+line-requires g c =
+    let row = shown _ c.from.type_inv c.from.ensures (shown _ c.of.type_inv c.of.ensures none) in
     line_fits _ row area_room (omega arith) _ _ c.requires.0
 
 pub returns : goal.returns
-returns c p =
-    let row = shown _ c.from-fault.type_inv (c.from-fault.ensures ∙ ap pos c.from.ensures) (shown _ c.of.type_inv c.of.ensures none) in
+returns g c p =
+    let number = c.from.ensures ∙ ap pos c.number-number.ensures in
+    let place = c.of.ensures ∙ ap pos c.line-line.ensures in
+    let row = shown _ c.from.type_inv number (shown _ c.of.type_inv place none) in
     let all = adds_most (adds_as (line_adds _ row line_room (omega arith) c.line.ensures) (refused_form p _ _)) area_room (omega arith) in
     search (rules, all)

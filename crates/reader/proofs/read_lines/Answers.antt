@@ -21,7 +21,7 @@ use Rattle.reader.proofs.read_lines.Goals.{else-number-ne1-via-then-number-ne1+e
 pub returns-then-is_empty : goal.returns-then-is_empty
 returns-then-is_empty c =
     let e = found_none line_feed c.lines.rest.now c.in_default.ensures in
-    S.walk_end c.lines.invariant e _ c.if-number-ne1.true (eqb-true (length c.lines.rest.now) 0 (sym c.if-is_empty.ensures))
+    S.walk_end c.lines.invariant e _ (λ n. c.if-number-ne1.true (omega (arith, n))) (eqb-true (length c.lines.rest.now) 0 (sym c.if-is_empty.ensures))
 
 pub returns-else-number-ne1 : goal.returns-else-number-ne1
 returns-else-number-ne1 c =
@@ -29,7 +29,7 @@ returns-else-number-ne1 c =
     let e = found_none line_feed c.lines.rest.now c.in_default.ensures in
     elim c.else-number-ne1.branch [
       | else-number-ne1-via-then-number-ne1+else-is_empty v ↦ S.walk_unended w e (eqb-false (length c.lines.rest.now) 0 (sym v.if-is_empty.ensures))
-      | else-number-ne1-via-else-number-ne1 v ↦ S.walk_none w e v.if-number-ne1.false
+      | else-number-ne1-via-else-number-ne1 v ↦ S.walk_none w e (omega (arith, v.if-number-ne1.false))
     ]
 
 -- ---- the fields of a line

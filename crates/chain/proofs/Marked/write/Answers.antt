@@ -9,5 +9,5 @@ loop-i-preserved c =
     rw c.from-e.ensures
     (record {
       low = c.requires.notes.low h.e;
-      putting = put_step _ _ _ _ _ _ _ (omega arith) (omega (arith, c.requires.room, c.count-count.ensures)) h.invariant.putting;
+      putting = put_step _ _ _ _ _ _ _ (omega arith) (omega (arith, c.requires.room)) h.invariant.putting;
     })
