@@ -1,7 +1,7 @@
 // The printed form of an outcome, put into a lent area.
 #![tactic(auto)]
 
-ghost use Rattle.std.specs.Prelude.{◌+◌, ◌*◌, ◌≤◌, length, take};
+ghost use Rattle.std.specs.Prelude.{◌≡◌, ◌+◌, ◌*◌, ◌≤◌, length, take};
 ghost use Rattle.meaning.specs.Plan as M;
 ghost use Rattle.meaning.specs.Plan.{wishes, most_events, most_records, most_bytes};
 ghost use Rattle.meaning.specs.Outcome.{solved, none, refusal};
@@ -100,8 +100,21 @@ pub fn put_none(out: &mut [u8], plan: &Loaded, chain: &[u16]) -> usize
     sheet.at
 }
 
-// The form of the times of a plan's events and the levels of its w wishes, which stand in front of their areas.
-pub fn put_solved(out: &mut [u8], plan: &Plan, w: usize, times: &[i64], levels: &[u8]) -> usize
+// The form of times, be they fewer or more than the plan has events, and of the levels of its wishes.
+pub fn put_solved(out: &mut [u8], plan: &Loaded, times: &[i64], levels: &[u8]) -> usize
+    requires { (area_room ≤ length out.old) × (length times.now ≤ most_events) × (length levels.now ≡ wishes plan.now) }
+    ensures { Put out.old out.new 0 result area_room (printed plan.now (solved times.now levels.now)) }
+{
+    let mut sheet = Sheet { out, at: 0 };
+    sheet.line(b"solved", &[i64::of(times.len()), i64::of(levels.len())]);
+    at_lines(&mut sheet, times);
+    level_lines(&mut sheet, plan.plan, levels);
+    sheet.at
+}
+
+// The form of the times of a plan's events and the levels of its w wishes, which stand in front of their areas. The area of the plan's own levels
+// is not asked for.
+pub fn put_timed(out: &mut [u8], plan: &Plan, w: usize, times: &[i64], levels: &[u8]) -> usize
     requires { (area_room ≤ length out.old) × ((p : M.Plan) × Timed p plan.now w times.now levels.now) }
     ensures { (p : M.Plan) → Timed p plan.now w times.now levels.now
         → Put out.old out.new 0 result area_room (printed p (solved (take p.events times.now) (take (wishes p) levels.now))) }

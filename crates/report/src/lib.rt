@@ -7,6 +7,9 @@ ghost use Rattle.meaning.specs.Reading.{read};
 ghost use Rattle.forms.specs.Put.{area_room};
 ghost use Rattle.report.specs.Answer.{Told, Answered};
 
+#[cfg(test)]
+mod tests;
+
 use forms::AREA;
 use plan::Loaded;
 use scope::{MOST_EVENTS, MOST_LEVELS_TOGETHER, MOST_RECORDS, Side};
@@ -32,7 +35,7 @@ fn put_outcome(out: &mut [u8], plan: &Loaded, side: Side) -> usize
         chain,
     } = areas;
     match outcome {
-        Outcome::Solved(w) => forms::put_solved(out, plan.plan, w, times, levels),
+        Outcome::Solved(w) => forms::put_timed(out, plan.plan, w, times, levels),
         Outcome::NoTimetable(steps) => forms::put_none(out, plan, &chain[..steps]),
     }
 }

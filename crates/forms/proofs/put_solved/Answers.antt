@@ -1,21 +1,31 @@
 -- `forms::put_solved` meets its contract: the line of the counts, the lines of the times and those of the levels.
-use mathlib.Core.Path.{◌∙◌}
+use mathlib.Core.Path.{◌≡◌}
+use mathlib.Core.List.{List}
+use Prim.Native.Nat.{ℕ, ◌*◌}
 use native.Mathlib.Omega.{arith}
-use lib.Seq.{length-take-le}
-use Rattle.std.proofs.lemmas.List.{length-take}
+use lib.ListN.{length}
+use lib.IntN.{ℤ}
+use Rattle.std.proofs.lemmas.List.{length-take, take_all}
 use borrow.Author.Rules.{rules}
-use Rattle.meaning.proofs.Wishes.{wishes_few}
-use Rattle.forms.specs.Put.{line_room, area_room}
+use Rattle.meaning.specs.Plan.{Plan, wishes}
+use Rattle.plan.specs.declared.Plan.{Plan as Held}
+use Rattle.plan.specs.Held.{InMemory}
+use Rattle.print.specs.declared.Sheet.{Sheet}
+use Rattle.forms.specs.Printed.{at_lines}
+use Rattle.forms.specs.Put.{line_room, area_room, Adds}
+use Rattle.forms.specs.Timed.{Levels}
 use Rattle.ticks.proofs.Shown.{none, shown}
 use Rattle.forms.proofs.Puts.{line_fits, line_adds}
-use Rattle.forms.proofs.Whole.{times_room, levels_room, timed_adds}
+use Rattle.forms.proofs.Whole.{times_room, levels_room, solved_adds}
 use Rattle.forms.proofs.put_solved.Goals as goal
 
-pub of-requires : goal.of-requires
-of-requires c = let t = c.requires.1.1 in omega (arith, t.holds.events, t.faultless.most)
+levels_of : {p : Plan} {h : Held} {area ls : List ℕ} → InMemory p h area → length ls ≡ wishes p → Levels p h ls
+levels_of o n = record { holds = o.holds; faultless = o.faultless; count = n }
 
-pub of-requires-2 : goal.of-requires-2
-of-requires-2 c = let t = c.requires.1.1 in omega (arith, t.count, wishes_few c.requires.1.0.records, t.faultless.few)
+-- the lines that were put are those of all times
+all_times : {s u : Sheet} {xs : List ℤ} (ts : List ℤ) → Adds s u (line_room * length xs) (at_lines 0 xs) → xs ≡ ts →
+    Adds s u (line_room * length ts) (at_lines 0 ts)
+all_times ts a e = rw e at a
 
 pub line-requires : goal.line-requires
 line-requires c =
@@ -24,26 +34,24 @@ line-requires c =
 
 pub at_lines-requires : goal.at_lines-requires
 at_lines-requires c =
-    let t = c.requires.1.1 in
     let row = shown _ c.of.type_inv c.of.ensures (shown _ c.of-2.type_inv c.of-2.ensures none) in
     let head = line_adds _ row line_room (omega arith) c.line.ensures in
-    times_room _ c.requires.0 head (grind (arith, length-take, t.holds.events, t.faultless.most))
+    times_room _ c.requires.0 head (grind (arith, length-take, c.requires.1))
 
 pub level_lines-requires : goal.level_lines-requires
 level_lines-requires c =
-    let t = c.requires.1.1 in
+    let o : InMemory c.args.plan.now c.plan.inside.plan.now c.plan.inside.levels.now = rw (← c.plan.view_is) c.plan.invariant in
     let row = shown _ c.of.type_inv c.of.ensures (shown _ c.of-2.type_inv c.of-2.ensures none) in
     let head = line_adds _ row line_room (omega arith) c.line.ensures in
-    let count = length-take-le c.args.w c.args.levels.now (omega (arith, t.count, t.room)) in (
-      levels_room _ c.requires.0 head (grind (arith, length-take, t.holds.events, t.faultless.most)) c.at_lines.ensures,
-      (c.requires.1.0, record { holds = t.holds; faultless = t.faultless; count = count ∙ t.count }),
-    )
+    let times = all_times c.args.times.now c.at_lines.ensures (grind (arith, take_all, c.requires.1)) in
+    (levels_room _ c.requires.0 head c.requires.1 times, (c.args.plan.now, levels_of o c.requires.2))
 
 pub returns : goal.returns
-returns c p t =
+returns c =
+    let o : InMemory c.args.plan.now c.plan.inside.plan.now c.plan.inside.levels.now = rw (← c.plan.view_is) c.plan.invariant in
     let row = shown _ c.of.type_inv c.of.ensures (shown _ c.of-2.type_inv c.of-2.ensures none) in
     let head = line_adds _ row line_room (omega arith) c.line.ensures in
-    let count = length-take-le c.args.w c.args.levels.now (omega (arith, t.count, t.room)) in
-    let levels = c.level_lines.ensures p (record { holds = t.holds; faultless = t.faultless; count = count ∙ t.count }) in
-    let all = timed_adds t head c.at_lines.ensures levels in
+    let times = all_times c.args.times.now c.at_lines.ensures (grind (arith, take_all, c.requires.1)) in
+    let levels = c.level_lines.ensures c.args.plan.now (levels_of o c.requires.2) in
+    let all = solved_adds c.args.plan.now c.args.times.now c.args.levels.now c.requires.1 head times levels in
     search (rules, all)

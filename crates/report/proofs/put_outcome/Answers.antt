@@ -24,14 +24,14 @@ timed c =
     let holds : Holds c.args.plan.now c.plan.inside.plan.now = rw (← c.plan.view_is) c.plan.invariant.holds in
     left_timed (solved_left c) holds faultless
 
-pub put_solved-requires : goal.put_solved-requires
-put_solved-requires c = (c.requires, (c.args.plan.now, timed (goal.at.put_solved-requires c).In-Solved))
+pub put_timed-requires : goal.put_timed-requires
+put_timed-requires c = (c.requires, (c.args.plan.now, timed (goal.at.put_timed-requires c).In-Solved))
 
 pub returns-in-Solved : goal.returns-in-Solved
 returns-in-Solved c =
     λ text e.
     let s = (goal.at.returns-in-Solved c).In-Solved in
-    told_plan e _ (left_right (solved_left s)) (c.put_solved.ensures c.args.plan.now (timed s))
+    told_plan e _ (left_right (solved_left s)) (c.put_timed.ensures c.args.plan.now (timed s))
 
 pub returns-in-NoTimetable : goal.returns-in-NoTimetable
 returns-in-NoTimetable c =
