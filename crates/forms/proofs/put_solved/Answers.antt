@@ -19,10 +19,11 @@ use Rattle.forms.proofs.Puts.{line_fits, line_adds}
 use Rattle.forms.proofs.Whole.{times_room, levels_room, solved_adds}
 use Rattle.forms.proofs.put_solved.Goals as goal
 
-levels_of : {p : Plan} {h : Held} {area ls : List ℕ} → InMemory p h area → length ls ≡ wishes p → Levels p h ls
-levels_of o n = record { holds = o.holds; faultless = o.faultless; count = n }
+-- as many levels as the plan has wishes, where the plan is whole in memory
+loaded_levels : {p : Plan} {h : Held} {area ls : List ℕ} → InMemory p h area → length ls ≡ wishes p → Levels p h ls
+loaded_levels o n = record { holds = o.holds; faultless = o.faultless; count = n }
 
--- the lines that were put are those of all times
+-- the lines of times that are all of these
 all_times : {s u : Sheet} {xs : List ℤ} (ts : List ℤ) → Adds s u (line_room * length xs) (at_lines 0 xs) → xs ≡ ts →
     Adds s u (line_room * length ts) (at_lines 0 ts)
 all_times ts a e = rw e at a
@@ -44,7 +45,7 @@ level_lines-requires c =
     let row = shown _ c.of.type_inv c.of.ensures (shown _ c.of-2.type_inv c.of-2.ensures none) in
     let head = line_adds _ row line_room (omega arith) c.line.ensures in
     let times = all_times c.args.times.now c.at_lines.ensures (grind (arith, take_all, c.requires.1)) in
-    (levels_room _ c.requires.0 head c.requires.1 times, (c.args.plan.now, levels_of o c.requires.2))
+    (levels_room _ c.requires.0 head c.requires.1 times, (c.args.plan.now, loaded_levels o c.requires.2))
 
 pub returns : goal.returns
 returns c =
@@ -52,6 +53,6 @@ returns c =
     let row = shown _ c.of.type_inv c.of.ensures (shown _ c.of-2.type_inv c.of-2.ensures none) in
     let head = line_adds _ row line_room (omega arith) c.line.ensures in
     let times = all_times c.args.times.now c.at_lines.ensures (grind (arith, take_all, c.requires.1)) in
-    let levels = c.level_lines.ensures c.args.plan.now (levels_of o c.requires.2) in
+    let levels = c.level_lines.ensures c.args.plan.now (loaded_levels o c.requires.2) in
     let all = solved_adds c.args.plan.now c.args.times.now c.args.levels.now c.requires.1 head times levels in
     search (rules, all)
